@@ -1,0 +1,44 @@
+-- Parts of a row of bytes byte by byte, and writing one piece behind another.
+use Prim.Native.Nat.{ℕ, zero, suc, _+_, _≤_}
+use mathlib.Core.Path.{_≡_, refl, sym, ap, _∙_}
+use mathlib.Core.List.{List, [], _∷_, _++_}
+use lib.ListN.{length, take, drop, getD}
+use native.Mathlib.Nat.{add-zero, zero-add}
+use native.Mathlib.Omega.{arith}
+use Rattle.std.proofs.shelf.Lists.{drop-more, take-at, drop-at, append-assoc, length-append, length-take-le, drop-drop, take-append-le}
+use Rattle.bytes.specs.Places.{part, over}
+
+-- The so many bytes at a place and a step from it, one by one.
+abbrev pub bytes-at : List ℕ → ℕ → ℕ → ℕ → List ℕ
+bytes-at bs at step zero = []
+bytes-at bs at step (suc n) = getD bs (at + step) 0 ∷ bytes-at bs at (suc step) n
+
+part-from : (bs : List ℕ) (at step n : ℕ) → at + step + n ≤ length bs → take n (drop (at + step) bs) ≡ bytes-at bs at step n
+part-from bs at step zero h = refl
+part-from bs at step (suc n) h =
+    ap (take (suc n)) (drop-more bs (at + step) 0 (omega arith)) ∙ ap (λ k. getD bs (at + step) 0 ∷ take n (drop k bs)) (omega arith) ∙ ap (λ t. getD bs (at + step) 0 ∷ t) (part-from bs at (suc step) n (omega arith))
+
+-- A part is its bytes one by one.
+pub part-is : (bs : List ℕ) (at n : ℕ) → at + n ≤ length bs → part at n bs ≡ bytes-at bs at 0 n
+part-is bs at n h = ap (λ k. take n (drop k bs)) (sym (add-zero at)) ∙ part-from bs at 0 n (omega arith)
+
+module _ (bs : List ℕ) where
+  -- A piece written right behind another is one piece.
+  pub over-over : (p q : List ℕ) (at next : ℕ) → at ≤ length bs → at + length p ≡ next → over (over bs at p) next q ≡ over bs at (p ++ q)
+  unfolding over
+  over-over p q at next h e =
+      let front : length (take at bs ++ p) ≡ next = length-append (take at bs) p ∙ ap (λ n. n + length p) (length-take-le at bs h) ∙ e in
+      let rest = drop (at + length p) bs in
+      let whole : take at bs ++ (p ++ rest) ≡ (take at bs ++ p) ++ rest = sym (append-assoc (take at bs) p rest) in
+      let behind : drop (next + length q) ((take at bs ++ p) ++ rest) ≡ drop (at + length (p ++ q)) bs =
+      sym (drop-drop (length q) next ((take at bs ++ p) ++ rest)) ∙ ap (drop (length q)) (drop-at (take at bs ++ p) rest next front) ∙ drop-drop (length q) (at + length p) bs
+      ∙ ap (λ n. drop n bs) (simp length-append (omega arith)) in
+      ap (λ t. take next t ++ (q ++ drop (next + length q) t)) whole
+      ∙ ap (λ t. t ++ (q ++ drop (next + length q) ((take at bs ++ p) ++ rest))) (take-at (take at bs ++ p) rest next front)
+      ∙ ap (λ t. (take at bs ++ p) ++ (q ++ t)) behind
+      ∙ simp append-assoc
+
+  -- What is written at the front stands there, and the rest is as it was.
+  pub over-front : (p : List ℕ) → over bs 0 p ≡ p ++ drop (length p) bs
+  unfolding over
+  over-front p = ap (λ n. p ++ drop n bs) (zero-add (length p))

@@ -1,0 +1,24 @@
+// Values of 32 bytes: lock values, keys, tweaks, secrets, points and signatures.
+ghost use Prim.Native.Nat.{_+_, _≤_};
+ghost use mathlib.Core.Path.{_≡_};
+ghost use lib.ListN.{length};
+ghost use Rattle.std.specs.Orderings.{Decides};
+ghost use Rattle.bytes.specs.Places.{part};
+
+// Whether two values agree in all their bytes.
+pub fn same32(a: &[u8; 32], b: &[u8; 32]) -> bool
+    ensures { λ r. ⌜ Decides r (now (a .entry) ≡ now (b .entry)) ⌝ }
+{
+    *a == *b
+}
+
+// The value of 32 bytes from a place on, as a part of the slice.
+pub fn value_at(bytes: &[u8], at: usize) -> &[u8; 32]
+    requires { ⌜ at + 32 ≤ length (now bytes) ⌝ }
+    ensures { λ r. ⌜ now r ≡ part at 32 (now (bytes .entry)) ⌝ }
+{
+    match bytes[at..].split_first_chunk::<32>() {
+        Some((value, _)) => value,
+        None => unreachable(),
+    }
+}
