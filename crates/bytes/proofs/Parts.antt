@@ -5,7 +5,7 @@ use mathlib.Core.List.{List, [], _∷_, _++_}
 use lib.ListN.{length, take, drop, getD}
 use native.Mathlib.Nat.{add-zero, zero-add}
 use native.Mathlib.Omega.{arith}
-use Rattle.std.proofs.shelf.Lists.{drop-more, take-at, drop-at, append-assoc, length-append, length-take-le, drop-drop, take-append-le}
+use Rattle.std.proofs.shelf.Lists.{drop-more, take-at, drop-at, append-assoc, length-append, length-take-le, drop-drop, take-append-drop}
 use Rattle.bytes.specs.Places.{part, over}
 
 -- The so many bytes at a place and a step from it, one by one.
@@ -37,6 +37,11 @@ module _ (bs : List ℕ) where
       ∙ ap (λ t. t ++ (q ++ drop (next + length q) ((take at bs ++ p) ++ rest))) (take-at (take at bs ++ p) rest next front)
       ∙ ap (λ t. (take at bs ++ p) ++ (q ++ t)) behind
       ∙ simp append-assoc
+
+  -- Writing no byte changes nothing.
+  pub over-none : (at : ℕ) → over bs at [] ≡ bs
+  unfolding over
+  over-none at = ap (λ n. take at bs ++ drop n bs) (add-zero at) ∙ take-append-drop at bs
 
   -- What is written at the front stands there, and the rest is as it was.
   pub over-front : (p : List ℕ) → over bs 0 p ≡ p ++ drop (length p) bs

@@ -1,0 +1,3 @@
+pub mod Contains
+pub mod Eights
+pub mod Rows
