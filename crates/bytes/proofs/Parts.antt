@@ -1,12 +1,16 @@
 -- Parts of a row of bytes byte by byte, and writing one piece behind another.
-use Prim.Native.Nat.{ℕ, zero, suc, _+_, _≤_}
+use Prim.Native.Nat.{ℕ, zero, suc, _+_, _≤_, _<_}
 use mathlib.Core.Path.{_≡_, refl, sym, ap, _∙_}
 use mathlib.Core.List.{List, [], _∷_, _++_}
+use mathlib.Core.Logic.{⊎-elim}
 use lib.ListN.{length, take, drop, getD}
 use native.Mathlib.Nat.{add-zero, zero-add}
 use native.Mathlib.Omega.{arith}
-use Rattle.std.proofs.shelf.Lists.{drop-more, take-at, drop-at, append-assoc, length-append, length-take-le, drop-drop, take-append-drop}
+use Rattle.std.proofs.shelf.Lists.{drop-more, take-at, drop-at, take-all, take-take, drop-take, append-assoc, length-append, length-take, length-drop, length-take-le, drop-drop, take-append-drop, getD-take, getD-drop, getD-past}
+use Rattle.std.proofs.shelf.Tests.{cases-lt}
+use Rattle.bytes.specs.Numbers.{bytes-of, number-of, Bytes}
 use Rattle.bytes.specs.Places.{part, over}
+use Rattle.bytes.proofs.Laws.{bytes-back}
 
 -- The so many bytes at a place and a step from it, one by one.
 abbrev pub bytes-at : List ℕ → ℕ → ℕ → ℕ → List ℕ
@@ -21,6 +25,34 @@ part-from bs at step (suc n) h =
 -- A part is its bytes one by one.
 pub part-is : (bs : List ℕ) (at n : ℕ) → at + n ≤ length bs → part at n bs ≡ bytes-at bs at 0 n
 part-is bs at n h = ap (λ k. take n (drop k bs)) (sym (add-zero at)) ∙ part-from bs at 0 n (omega arith)
+
+-- The whole row is a part of itself.
+pub part-whole : (bs : List ℕ) (n : ℕ) → length bs ≡ n → part 0 n bs ≡ bs
+part-whole bs n e = take-all n bs (omega arith)
+
+-- A part and the one right behind it are one part.
+pub part-join : (bs : List ℕ) (at n next m : ℕ) → at + n ≡ next → part at n bs ++ part next m bs ≡ part at (n + m) bs
+part-join bs at n next m e =
+    let rest = drop at bs in
+    ap (λ t. take n rest ++ take m t) (ap (λ k. drop k bs) (sym e) ∙ sym (drop-drop n at bs))
+    ∙ (λ i. sym (take-take n (n + m) rest (omega arith)) i ++ sym (drop-take n m rest) i)
+    ∙ take-append-drop n (take (n + m) rest)
+
+pub part-long : (bs : List ℕ) (at n : ℕ) → at + n ≤ length bs → length (part at n bs) ≡ n
+part-long bs at n h = simp (length-take, length-drop) (omega arith)
+
+-- A part of bytes is bytes.
+pub part-bytes : (bs : List ℕ) → Bytes bs → (at n : ℕ) → Bytes (part at n bs)
+part-bytes bs each at n i =
+    ⊎-elim
+    (λ (l : i < n). let e = getD-take n (drop at bs) i 0 l ∙ getD-drop at bs i 0 in let b = each (at + i) in omega arith)
+    (λ (l : n ≤ i). let none = getD-past (part at n bs) i 0 (simp (length-take, length-drop) (omega arith)) in omega arith)
+    (cases-lt i n)
+
+-- The number of a part has the bytes of the part.
+pub part-back : (bs : List ℕ) → Bytes bs → (at n : ℕ) → at + n ≤ length bs → bytes-of n (number-of (part at n bs)) ≡ part at n bs
+part-back bs each at n h =
+    ap (λ l. bytes-of l (number-of (part at n bs))) (sym (part-long bs at n h)) ∙ bytes-back (part at n bs) (part-bytes bs each at n)
 
 module _ (bs : List ℕ) where
   -- A piece written right behind another is one piece.
@@ -37,6 +69,10 @@ module _ (bs : List ℕ) where
       ∙ ap (λ t. t ++ (q ++ drop (next + length q) ((take at bs ++ p) ++ rest))) (take-at (take at bs ++ p) rest next front)
       ∙ ap (λ t. (take at bs ++ p) ++ (q ++ t)) behind
       ∙ simp append-assoc
+
+  -- A piece written behind what stands at the front.
+  pub over-next : (p q : List ℕ) (next : ℕ) {s t : List ℕ} → length p ≡ next → s ≡ over bs 0 p → t ≡ over s next q → t ≡ over bs 0 (p ++ q)
+  over-next p q next l e f = f ∙ ap (λ x. over x next q) e ∙ over-over p q 0 next (omega arith) (zero-add (length p) ∙ l)
 
   -- Writing no byte changes nothing.
   pub over-none : (at : ℕ) → over bs at [] ≡ bs

@@ -2,16 +2,17 @@
 use Prim.Native.Nat.{ℕ, zero, suc, _+_, _*_, _^_, _≤_, _<_}
 use mathlib.Core.Path.{_≡_, refl, sym, ap, _∙_, fun-ext}
 use mathlib.Core.List.{List, [], _++_}
-use mathlib.Core.Logic.{_⊎_, ⊎-elim}
-use lib.ListN.{length, take, drop, getD}
+use mathlib.Core.Logic.{⊎-elim}
+use lib.ListN.{length, take, drop}
 use native.Mathlib.Nat.{mul-suc}
 use native.Mathlib.Numerals.{add-one}
 use native.Mathlib.Omega.{arith}
-use Rattle.std.proofs.shelf.Lists.{length-append, drop-append-le, take-append-le, drop-at, take-all, drop-all, length-drop, take-append-drop, take-take, drop-take, length-take, getD-take, getD-drop, getD-past}
+use Rattle.std.proofs.shelf.Lists.{length-append, drop-append-le, take-append-le, drop-at, drop-all, length-drop}
 use Rattle.std.proofs.shelf.Tests.{cases-lt}
 use Rattle.bytes.specs.Numbers.{bytes-of, number-of, Bytes}
 use Rattle.bytes.specs.Places.{part}
-use Rattle.bytes.proofs.Laws.{number-back, bytes-back}
+use Rattle.bytes.proofs.Laws.{number-back}
+use Rattle.bytes.proofs.Parts.{part-whole, part-join, part-back}
 use Rattle.money.specs.Amounts.{Amount}
 use Rattle.money.specs.Terms.{eight-each, eights}
 
@@ -61,26 +62,12 @@ eight-back n f small past = fun-ext (λ k. ⊎-elim (inside k) (outside k) (case
     outside k l = eight-past n (eight-each n f) (eight-long n f) k l ∙ sym (past k l)
 
 module _ (bs : List ℕ) (each : Bytes bs) where
-  part-long : (at : ℕ) → at + 8 ≤ length bs → length (part at 8 bs) ≡ 8
-  part-long at h = simp (length-take, length-drop) (omega arith)
-
-  part-bytes : (at : ℕ) → at + 8 ≤ length bs → Bytes (part at 8 bs)
-  part-bytes at h i = ⊎-elim
-      (λ (l : i < 8). let e = getD-take 8 (drop at bs) i 0 l ∙ getD-drop at bs i 0 in let b = each (at + i) in omega arith)
-      (λ (l : 8 ≤ i). let long = part-long at h in let e = getD-past (part at 8 bs) i 0 (omega arith) in omega arith)
-      (cases-lt i 8)
-
-  eight-front : (n : ℕ) → 8 * n ≤ length bs → eight-each n (eights n .stands bs) ≡ take (8 * n) bs
+  eight-front : (n : ℕ) → 8 * n ≤ length bs → eight-each n (eights n .stands bs) ≡ part 0 (8 * n) bs
   eight-front zero h = refl
   eight-front (suc n) h =
-      let room : 8 * n + 8 ≤ length bs = omega arith in
-      let piece = part (8 * n) 8 bs in
-      let last : bytes-of 8 (number-of piece) ≡ piece =
-      ap (λ l. bytes-of l (number-of piece)) (sym (part-long (8 * n) room)) ∙ bytes-back piece (part-bytes (8 * n) room) in
-      let more : take (8 * n) bs ++ piece ≡ take (8 * n + 8) bs =
-      (λ i. sym (take-take (8 * n) (8 * n + 8) bs (omega arith)) i ++ sym (drop-take (8 * n) 8 bs) i) ∙ take-append-drop (8 * n) (take (8 * n + 8) bs) in
-      (λ i. eight-front n (omega arith) i ++ last i) ∙ more ∙ ap (λ m. take m bs) (sym (mul-suc 8 n))
+      let more : 8 * n + 8 ≡ 8 * suc n = sym (mul-suc 8 n) in
+      (λ i. eight-front n (omega arith) i ++ part-back bs each (8 * n) 8 (omega arith) i) ∙ part-join bs 0 (8 * n) (8 * n) 8 (omega arith) ∙ ap (λ m. part 0 m bs) more
 
   -- What is read, written again, gives the bytes that were read.
   pub eight-again : (n : ℕ) → length bs ≡ 8 * n → eight-each n (eights n .stands bs) ≡ bs
-  eight-again n e = eight-front n (omega arith) ∙ take-all (8 * n) bs (omega arith)
+  eight-again n e = eight-front n (omega arith) ∙ part-whole bs (8 * n) e
