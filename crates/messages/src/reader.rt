@@ -4,6 +4,7 @@ ghost use mathlib.Core.Path.{_≡_};
 ghost use Rattle.std.specs.Options.{mapped, okOr};
 ghost use Rattle.messages.specs.Contents.{content, fulfil, fail, signed, revoked, fee, reestablish};
 ghost use Rattle.messages.specs.Reading.{contents, number-at, whole, read-add, read-fields, read-message};
+ghost use Rattle.messages.specs.RoundTrip.{Round-trip};
 ghost use Rattle.messages.specs.declared.fault.MessageFault.the-variants.{Malformed};
 ghost use Rattle.bytes.specs.Places.{part};
 use crate::fault::MessageFault;
@@ -138,4 +139,11 @@ fn read_reestablish(fields: &[u8]) -> Option<Message<'_>>
         commitment: read_u64(fields, 0),
         revocation: read_u64(fields, 8),
     })
+}
+
+// Carries the law that writing and reading undo each other, for every kind of money.
+pub fn messages_come_back<M: Money>() -> u8
+    ensures { λ _. ⌜ Round-trip M·Money ⌝ }
+{
+    0
 }
