@@ -1,0 +1,4 @@
+// The commands of a book: its lines, their words, and what they ask for.
+pub mod hex;
+pub mod lines;
+pub mod number;

@@ -1,0 +1,1 @@
+// Lines, and the words in them.
