@@ -1,0 +1,19 @@
+use Prim.Native.Nat.{_-_}
+use mathlib.Core.Path.{_≡_, sym, ap, _∙_}
+use lib.ListN.{length, take, drop}
+use native.Mathlib.Omega.{arith}
+use Rattle.commands.specs.Lines.{front, is-blank, is-letter}
+use Rattle.commands.proofs.Fronts.{part-before, part-behind}
+use Rattle.commands.proofs.lines.split_word.Needs as need
+
+pub returns : need.returns
+returns c =
+    let line = c .args .line .now in
+    let start = c .front-start .result in
+    let words = take (length line - start) (drop start line) in
+    let trimmed = part-behind line start (front is-blank line) (c .front-start .ensures .value) in
+    let begins = c .front-start .ensures .value in (
+      omega arith,
+      part-before words (c .front-end .result) (front is-letter words) (c .front-end .ensures .value) ∙ ap (λ w. take (front is-letter w) w) trimmed,
+      part-behind words (c .front-end .result) (front is-letter words) (c .front-end .ensures .value) ∙ ap (λ w. drop (front is-letter w) w) trimmed,
+    )
