@@ -1,3 +1,4 @@
 pub mod Hex
 pub mod Lines
 pub mod Numbers
+pub mod Parsing
