@@ -1,0 +1,53 @@
+-- What the desk answers to each question.
+use Prim.Native.Nat.{ℕ}
+use mathlib.Core.Path.{_≡_}
+use mathlib.Core.Bool.{Bool, true, false, cond}
+use mathlib.Core.List.{List, _++_}
+use lib.Chars.{codes}
+use lib.Dec.{eqb}
+use lib.ListN.{length}
+use Rattle.std.specs.Of.String.{string-bytes}
+use Rattle.std.specs.Of.Vec.{vec-items}
+use Rattle.std.specs.Written.{decimal}
+use Rattle.std.specs.declared.option.Option.{Option}
+use Rattle.std.specs.declared.option.Option.the-variants.{Some, None}
+use Rattle.commands.specs.declared.command.LockName.{LockName}
+use Rattle.commands.specs.Hex.{hex-of}
+use Rattle.messages.specs.Contents.{Content}
+use Rattle.messages.specs.Reading.{read-message}
+use Rattle.money.specs.Amounts.{Amount, limited}
+use Rattle.money.specs.Terms.{Terms}
+use Rattle.desk.specs.declared.answer.Answer.{Answer}
+use Rattle.desk.specs.declared.answer.Answer.the-variants.{Taken, Declined}
+use Rattle.desk.specs.NamedLocks.{meaning-of, Makeable}
+use Rattle.desk.specs.Texts.{amount-text, content-text}
+
+-- The amount that bytes of the money's width stand for, unless it passes the limit.
+abbrev pub amount-read : Terms → List ℕ → Option Amount
+amount-read terms bs = cond (eqb (length bs) (terms .width)) (limited (terms .assets) (terms .limit) (terms .stands bs)) None
+
+-- A refusal says its number, layer and channel, and then what it means.
+pub record Refused (number layer channel : ℕ) (text : List ℕ) : Type 0 where
+  pub words : List ℕ
+  pub says : text ≡ codes "declined " ++ (decimal number ++ (codes ", layer " ++ (decimal layer ++ (codes ", channel " ++ (decimal channel ++ (codes ": " ++ words))))))
+
+-- `read`: the fields of the message, or refusal 4 of the message layer.
+abbrev pub Read-said : Terms → (Amount → List ℕ) → ℕ → List ℕ → Answer → Type 0
+Read-said terms shown channel bytes (Taken text) = (m : Content) × (read-message (terms .width) bytes ≡ Some m) × (string-bytes text ≡ content-text (λ bs. amount-text shown (amount-read terms bs)) m)
+Read-said terms shown channel bytes (Declined text) = (read-message (terms .width) bytes ≡ None) × Refused 4 1 channel (string-bytes text)
+
+-- A number alone, where no channel is concerned.
+abbrev pub Declines : ℕ → Answer → Type 0
+Declines number (Taken text) = ⊥
+Declines number (Declined text) = string-bytes text ≡ codes "declined " ++ decimal number
+
+-- `opens`: yes exactly where the value is the lock value of the key; a group that cannot be made is declined with 5.
+abbrev pub Opens-said : LockName → (key value : List ℕ) → Answer → Type 0
+Opens-said lock key value (Taken text) =
+    Makeable lock × (b : Bool) × ((b ≡ true → value ≡ meaning-of lock .value-of key) × (value ≡ meaning-of lock .value-of key → b ≡ true)) × (string-bytes text ≡ cond b (codes "yes") (codes "no"))
+Opens-said lock key value (Declined text) = (Makeable lock → ⊥) × (string-bytes text ≡ codes "declined " ++ decimal 5)
+
+-- `carry`: the carried key or value in hex, or declined likewise.
+abbrev pub Carry-said : LockName → (carried : List ℕ) → Answer → Type 0
+Carry-said lock carried (Taken text) = Makeable lock × (string-bytes text ≡ hex-of carried)
+Carry-said lock carried (Declined text) = (Makeable lock → ⊥) × (string-bytes text ≡ codes "declined " ++ decimal 5)

@@ -1,0 +1,4 @@
+pub mod Answers
+pub mod Locked
+pub mod NamedLocks
+pub mod Texts

@@ -1,0 +1,6 @@
+// An answer in words.
+#[derive(Drop)]
+pub enum Answer {
+    Taken(String),
+    Declined(String),
+}
