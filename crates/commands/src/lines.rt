@@ -1,5 +1,5 @@
 // Lines, and the words in them.
-ghost use Prim.Native.Nat.{_≤_};
+ghost use Prim.Native.Nat.{_<_};
 ghost use mathlib.Core.Path.{_≡_};
 ghost use lib.ListN.{length};
 ghost use Rattle.commands.specs.Lines.{first-line, later-lines, without-return, Splits, passed-over, printable};
@@ -17,6 +17,7 @@ use crate::front::front;
 pub fn split_line(text: &[u8]) -> (&[u8], &[u8])
     ensures line { λ r. ⌜ now (r .0) ≡ first-line (now (text .entry)) ⌝ }
     ensures rest { λ r. ⌜ now (r .1) ≡ later-lines (now (text .entry)) ⌝ }
+    ensures shorter { λ r. ⌜ (0 < length (now (text .entry)) → length (now (r .1)) < length (now (text .entry))) ⌝ }
 {
     let end = front::<InLine>(text);
     if end < text.len() {

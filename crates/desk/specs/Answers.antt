@@ -11,12 +11,15 @@ use Rattle.std.specs.Of.Vec.{vec-items}
 use Rattle.std.specs.Written.{decimal}
 use Rattle.std.specs.declared.option.Option.{Option}
 use Rattle.std.specs.declared.option.Option.the-variants.{Some, None}
+use Rattle.commands.specs.declared.command.Command.{Command}
+use Rattle.commands.specs.declared.command.Command.the-variants.{Sha, Read, Opens, CarryKey, CarryValue}
 use Rattle.commands.specs.declared.command.LockName.{LockName}
 use Rattle.commands.specs.Hex.{hex-of}
 use Rattle.messages.specs.Contents.{Content}
 use Rattle.messages.specs.Reading.{read-message}
 use Rattle.money.specs.Amounts.{Amount, limited}
-use Rattle.money.specs.Terms.{Terms}
+use Rattle.money.specs.Terms.{Terms, eights}
+use Rattle.sha256.specs.Fips.{hash}
 use Rattle.desk.specs.declared.answer.Answer.{Answer}
 use Rattle.desk.specs.declared.answer.Answer.the-variants.{Taken, Declined}
 use Rattle.desk.specs.NamedLocks.{meaning-of, Makeable}
@@ -51,3 +54,20 @@ Opens-said lock key value (Declined text) = (Makeable lock → ⊥) × (string-b
 abbrev pub Carry-said : LockName → (carried : List ℕ) → Answer → Type 0
 Carry-said lock carried (Taken text) = Makeable lock × (string-bytes text ≡ hex-of carried)
 Carry-said lock carried (Declined text) = (Makeable lock → ⊥) × (string-bytes text ≡ codes "declined " ++ decimal 5)
+
+-- The answer to each command; amounts are in satoshi.
+abbrev pub Said : Command → Answer → Type 0
+Said (Sha message) (Taken text) = string-bytes text ≡ hex-of (hash (vec-items message))
+Said (Sha message) (Declined text) = ⊥
+Said (Read channel message) answer = Read-said (eights 1) (λ f. decimal (f 0)) channel (vec-items message) answer
+Said (Opens lock key value) answer = Opens-said lock key value answer
+Said (CarryKey lock key tweak) answer = Carry-said lock (meaning-of lock .carried-key key tweak) answer
+Said (CarryValue lock value tweak) answer = Carry-said lock (meaning-of lock .carried-value value tweak) answer
+
+-- The text of an answer, and a page of the book: its number, the command's name and the answer.
+abbrev pub text-of : Answer → List ℕ
+text-of (Taken text) = string-bytes text
+text-of (Declined text) = string-bytes text
+
+abbrev pub page-text : ℕ → List ℕ → Answer → List ℕ
+page-text number name answer = decimal number ++ (codes " " ++ (name ++ (codes ": " ++ text-of answer)))

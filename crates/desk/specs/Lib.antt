@@ -1,4 +1,5 @@
 pub mod Answers
 pub mod Locked
 pub mod NamedLocks
+pub mod Statements
 pub mod Texts

@@ -2,6 +2,7 @@
 pub mod amount;
 pub mod answer;
 pub mod named_lock;
+pub mod pages;
 pub mod questions;
 pub mod refusal;
 pub mod text;

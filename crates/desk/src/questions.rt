@@ -4,18 +4,22 @@ ghost use Rattle.std.specs.Of.String.{string-bytes};
 ghost use Rattle.std.specs.Vec.{made};
 ghost use Rattle.commands.specs.Hex.{hex-of};
 ghost use Rattle.sha256.specs.Fips.{hash};
-ghost use Rattle.desk.specs.Answers.{Read-said, Opens-said, Carry-said, Declines};
+ghost use Rattle.desk.specs.Answers.{Read-said, Opens-said, Carry-said, Declines, Said};
 ghost use Rattle.desk.specs.NamedLocks.{meaning-of};
+use crate::amount::SatoshiShow;
 use crate::amount::Show;
 use crate::answer::Answer;
 use crate::named_lock::NamedLock;
 use crate::named_lock::NamedLockLock;
 use crate::refusal::refusal_text;
 use crate::text::message_text;
+use commands::command::Command;
 use commands::command::LockName;
 use commands::hex;
 use locks::lock::Lock;
 use messages::reader::read;
+use money::satoshi::Satoshi;
+use money::satoshi::SatoshiMoney;
 use sha256::sha256;
 use std::alloc::AllocError;
 use std::alloc::Global;
@@ -107,5 +111,25 @@ pub fn answer_carry_value(
             Ok(Answer::Taken(text))
         }
         Err(number) => declined(heap, number),
+    }
+}
+
+// The answer to a command; amounts are in satoshi.
+pub fn answer(heap: Global, command: &Command) -> Result<Answer, AllocError>
+    ensures { λ r. ⌜ made r (λ a. Said (now (command .entry)) a) ⌝ }
+{
+    match command {
+        Command::Sha { message } => {
+            let text = answer_sha(heap, message.as_slice())?;
+            Ok(Answer::Taken(text))
+        }
+        Command::Read { channel, message } => answer_read::<Satoshi>(
+            heap,
+            *channel,
+            message.as_slice(),
+        ),
+        Command::Opens { lock, key, value } => answer_opens(heap, *lock, key, value),
+        Command::CarryKey { lock, key, tweak } => answer_carry_key(heap, *lock, key, tweak),
+        Command::CarryValue { lock, value, tweak } => answer_carry_value(heap, *lock, value, tweak),
     }
 }

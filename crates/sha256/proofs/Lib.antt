@@ -1,2 +1,3 @@
+pub mod Digests
 pub mod Streams
 pub mod Turns

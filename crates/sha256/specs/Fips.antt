@@ -68,7 +68,7 @@ mixed w t = add (add (add (small-sigma1 (getD w (t - 2) 0)) (getD w (t - 7) 0)) 
 unfoldable pub word : List ℕ → List ℕ → ℕ → ℕ
 word block before t = cond (ltb t 16) (number-of (part (4 * t) 4 block)) (mixed before t)
 
--- The first so many words of a block's message schedule.
+-- The message schedule of a block: its first t words.
 unfoldable pub schedule : List ℕ → ℕ → List ℕ
 schedule block zero = []
 schedule block (suc t) = schedule block t ++ (word block (schedule block t) t ∷ [])
@@ -85,10 +85,10 @@ t2 s = add (big-sigma0 (getD s 0 0)) (maj (getD s 0 0) (getD s 1 0) (getD s 2 0)
 unfoldable pub round : List ℕ → ℕ → ℕ → List ℕ
 round s k w = add (t1 s k w) (t2 s) ∷ getD s 0 0 ∷ getD s 1 0 ∷ getD s 2 0 ∷ add (getD s 3 0) (t1 s k w) ∷ getD s 4 0 ∷ getD s 5 0 ∷ getD s 6 0 ∷ []
 
--- The working variables after so many rounds.
+-- The working variables after t rounds, each with its K and its W.
 unfoldable pub rounds : List ℕ → List ℕ → ℕ → List ℕ
-rounds s w zero = s
-rounds s w (suc t) = round (rounds s w t) (getD constants t 0) (getD w t 0)
+rounds s block zero = s
+rounds s block (suc t) = round (rounds s block t) (getD constants t 0) (word block (schedule block t) t)
 
 -- Hash values are added word by word.
 unfoldable pub sums : List ℕ → List ℕ → List ℕ
@@ -96,14 +96,14 @@ sums s t = map (λ i. add (getD s i 0) (getD t i 0)) (counting 0 8)
 
 -- The hash value after a block: what 64 rounds make of the hash value is added to it.
 unfoldable pub compressed : List ℕ → List ℕ → List ℕ
-compressed s block = sums s (rounds s (schedule block 64) 64)
+compressed s block = sums s (rounds s block 64)
 
 -- H(n): the hash value after the first n blocks of 64 bytes.
 unfoldable pub after : List ℕ → ℕ → List ℕ
 after m zero = initial
 after m (suc n) = compressed (after m n) (part (64 * n) 64 m)
 
--- Padding of n bytes: the bit 1, zeros up to 8 bytes short of a whole block, and the length in bits.
+-- Padding of n bytes: the bit 1, zeros up to 8 bytes short of a whole block, and the length in bits as a number of 64 bits.
 unfoldable pub padding : ℕ → List ℕ
 padding n = (128 ∷ replicate ((119 - n % 64) % 64) 0) ++ bytes-of 8 (8 * n % 2 ^ 64)
 
@@ -111,6 +111,6 @@ padding n = (128 ∷ replicate ((119 - n % 64) % 64) 0) ++ bytes-of 8 (8 * n % 2
 unfoldable pub hash-value : List ℕ → List ℕ
 hash-value m = after m (length m / 64)
 
--- The digest: the words of the padded message's hash value.
+-- SHA-256 of a message: the words of the hash value of the padded message, in bytes.
 unfoldable pub hash : List ℕ → List ℕ
 hash m = joined (bytes-of 4) (hash-value (m ++ padding (length m)))

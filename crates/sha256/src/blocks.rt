@@ -1,20 +1,17 @@
 // What one block of 64 bytes does to the hash value, and the hash value in bytes.
-ghost use Prim.Native.Nat.{_+_, _≤_, _<_};
 ghost use mathlib.Core.Path.{_≡_};
-ghost use lib.ListN.{take};
-ghost use Rattle.std.specs.Joined.{joined};
-ghost use Rattle.bytes.specs.Numbers.{bytes-of};
-ghost use Rattle.sha256.specs.Fips.{initial, schedule, compressed};
+ghost use mathlib.Core.List.{List, [], _++_};
+ghost use Prim.Native.Nat.{ℕ};
+ghost use lib.ListN.{length};
+ghost use Rattle.sha256.specs.Fips.{compressed, padding, hash-value, hash};
+use crate::rounds::eight_mixed;
+use crate::rounds::eight_own;
 use crate::words::added;
-use crate::words::constant;
-use crate::words::mixed_word;
-use crate::words::turned;
-use bytes::numbers::read_u32;
 use bytes::numbers::to_bytes4;
 
 // The hash value before the first block.
 pub fn initial_value() -> [u32; 8]
-    ensures { λ r. ⌜ r ≡ initial ⌝ }
+    ensures { λ r. ⌜ r ≡ hash-value [] ⌝ }
 {
     [
         0x6a09_e667,
@@ -28,44 +25,25 @@ pub fn initial_value() -> [u32; 8]
     ]
 }
 
-// The block's own 16 words, at the front of the schedule.
-fn own_words(block: &[u8; 64]) -> [u32; 64]
-    ensures { λ r. ⌜ take 16 r ≡ schedule (now (block .entry)) 16 ⌝ }
-{
-    let mut w = [0; 64];
-    for t in 0..16 {
-        w[t] = read_u32(block, 4 * t);
-    }
-    w
-}
-
-// The message schedule of a block.
-fn message_schedule(block: &[u8; 64]) -> [u32; 64]
-    ensures { λ r. ⌜ r ≡ schedule (now (block .entry)) 64 ⌝ }
-{
-    let mut w = own_words(block);
-    for t in 16..64 {
-        w[t] = mixed_word(&w, t);
-    }
-    w
-}
-
 // The hash value after one more block.
 pub fn compress(value: [u32; 8], block: &[u8; 64]) -> [u32; 8]
     ensures { λ r. ⌜ r ≡ compressed value (now (block .entry)) ⌝ }
 {
-    let w = message_schedule(block);
-    let mut s = value;
-    for t in 0..64 {
-        let next = turned(s, constant(t), w[t]);
-        s = next;
-    }
-    added(value, s)
+    let mut w = [0; 64];
+    let s1 = eight_own::<0>(value, block, &mut w);
+    let s2 = eight_own::<8>(s1, block, &mut w);
+    let s3 = eight_mixed::<16>(s2, &mut w);
+    let s4 = eight_mixed::<24>(s3, &mut w);
+    let s5 = eight_mixed::<32>(s4, &mut w);
+    let s6 = eight_mixed::<40>(s5, &mut w);
+    let s7 = eight_mixed::<48>(s6, &mut w);
+    let s8 = eight_mixed::<56>(s7, &mut w);
+    added(value, s8)
 }
 
-// The words of a hash value as bytes.
-pub fn value_bytes(value: [u32; 8]) -> [u8; 32]
-    ensures { λ r. ⌜ r ≡ joined (bytes-of 4) value ⌝ }
+// The digest from the last hash value: its words in bytes.
+pub fn digest_of(value: [u32; 8]) -> [u8; 32]
+    ensures { λ r. ⌜ ((m : List ℕ) → value ≡ hash-value (m ++ padding (length m)) → r ≡ hash m) ⌝ }
 {
     let mut out = [0; 32];
     for i in 0..8 {

@@ -1,13 +1,13 @@
 // A hasher that takes a message in pieces.
-ghost use Prim.Native.Nat.{ℕ, _<_, _≤_};
+ghost use Prim.Native.Nat.{ℕ, _+_, _-_, _%_, _<_, _≤_};
 ghost use mathlib.Core.Path.{_≡_};
 ghost use mathlib.Core.List.{List, [], _++_};
 ghost use lib.ListN.{length, take};
-ghost use Rattle.sha256.specs.Fips.{hash};
+ghost use Rattle.sha256.specs.Fips.{hash, padding};
 ghost use Rattle.sha256.specs.Stream.{Absorbed};
 use crate::blocks::compress;
+use crate::blocks::digest_of;
 use crate::blocks::initial_value;
-use crate::blocks::value_bytes;
 use bytes::numbers::to_bytes8;
 
 // The count of bytes is kept modulo 2^64: the place in the block and the length in bits need no more.
@@ -44,13 +44,19 @@ impl Hasher {
     pub fn digest(&self) -> [u8; 32]
         ensures { λ r. ⌜ ((m : List ℕ) → Absorbed (now (self .entry)) m → r ≡ hash m) ⌝ }
     {
-        let filled = (self.total % 64) as usize;
+        digest_of(self.padded().state)
+    }
+
+    // The hasher after the padding too.
+    fn padded(&self) -> Hasher
+        ensures { λ r. ⌜ ((m : List ℕ) → Absorbed (now (self .entry)) m → Absorbed r (m ++ padding (length m))) ⌝ }
+    {
         let mut mark = [0; 64];
         mark[0] = 0x80;
         let mut ended = *self;
-        ended.absorb(&mark[0..1 + (119 - filled) % 64]);
+        ended.absorb(&mark[0..mark_length((self.total % 64) as usize)]);
         ended.absorb(&to_bytes8(self.total << 3));
-        value_bytes(ended.state)
+        ended
     }
 
     // Takes in as many of the bytes as the block has room for, and says how many.
@@ -69,5 +75,17 @@ impl Hasher {
             self.state = next;
         }
         count
+    }
+}
+
+// How many bytes the mark and its zeros take behind so many of a block: up to 8 bytes short of a whole block.
+fn mark_length(filled: usize) -> usize
+    requires { ⌜ filled < 64 ⌝ }
+    ensures { λ r. ⌜ r ≡ 1 + (119 - filled) % 64 ⌝ }
+{
+    if filled < 56 {
+        56 - filled
+    } else {
+        120 - filled
     }
 }

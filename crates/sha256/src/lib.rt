@@ -2,9 +2,10 @@
 ghost use mathlib.Core.Path.{_≡_};
 ghost use Rattle.sha256.specs.Fips.{hash};
 
-pub mod blocks;
+mod blocks;
 pub mod hasher;
-pub mod words;
+mod rounds;
+mod words;
 
 use crate::hasher::Hasher;
 

@@ -1,4 +1,3 @@
-use mathlib.Core.Path.{_≡_, _∙_, ap}
 use mathlib.Core.List.{_++_}
 use lib.ListN.{take}
 use lib.Seq.{take-add}
@@ -16,4 +15,4 @@ loop-at-again c =
     (search needs, λ m h. simp (take-add at count bytes, ← append-assoc) (took (m ++ take at bytes) (c .loop-at .inv .1 m h)))
 
 pub returns : need.returns
-returns c m h = rw (take-all (c .loop-at .at) (c .args .bytes .now) (c .loop-at-test .left)) at (c .loop-at .inv .1 m h)
+returns c m h = rw (take-all (c .loop-at .at) (c .args .bytes .now) (omega arith)) at (c .loop-at .inv .1 m h)
