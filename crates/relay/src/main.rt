@@ -8,18 +8,25 @@ use desk::pages::Statement;
 use desk::pages::name;
 use desk::pages::page;
 use desk::questions::answer;
-use std::alloc::Global;
 use std::env;
 use std::error::AnyError;
 use std::fs;
 use std::io::Read;
+
+// The bytes of a file; the error names it.
+fn read_file(rt: &LibcRuntime, path: &str) -> Result<Vec<u8>, AnyError> {
+    match fs::read(rt, path) {
+        Ok(book) => Ok(book),
+        Err(error) => Err(format!(rt.alloc(), "cannot read {path}: {error}")?.into()),
+    }
+}
 
 // The file that the first argument names, or standard input.
 fn read_book(rt: &LibcRuntime) -> Result<Vec<u8>, AnyError> {
     let mut args = env::args(rt)?;
     let _program = args.next();
     match args.next() {
-        Some(path) => Ok(fs::read(rt, path.as_str())?),
+        Some(path) => read_file(rt, path.as_str()),
         None => {
             let mut book = Vec::new(rt.alloc());
             rt.stdin().read_to_end(&mut book)?;
@@ -82,15 +89,19 @@ fn print_book(rt: &LibcRuntime, book: &[u8]) -> Result<bool, AnyError> {
     Ok(readable)
 }
 
-fn run(rt: &LibcRuntime) -> Result<(), AnyError> {
+fn run(rt: &LibcRuntime) -> Result<bool, AnyError> {
     let book = read_book(rt)?;
-    if print_book(rt, book.as_slice())? {
-        Ok(())
-    } else {
-        Err("some lines could not be read".into())
-    }
+    print_book(rt, book.as_slice())
 }
 
+// Ends with status 1 where a line, the file or the memory failed.
 fn main(rt: LibcRuntime) -> Result<(), AnyError> {
-    rt.report(run(&rt))
+    match run(&rt) {
+        Ok(true) => Ok(()),
+        Ok(false) => Err("some lines could not be read".into()),
+        Err(error) => {
+            eprintln!(rt, "relay: {error}")?;
+            Err(error)
+        }
+    }
 }
