@@ -46,11 +46,19 @@ pub impl Money for Basket as BasketMoney {
 
     ghost asset = { λ b k. getD (b .amounts) k 0 };
 
+    fn asset_count() -> usize {
+        Self::ASSETS
+    }
+
+    fn most_units() -> u64 {
+        Self::LIMIT
+    }
+
     fn byte_width() -> usize {
         Self::WIDTH
     }
 
-    fn none() -> Basket {
+    fn nothing() -> Basket {
         Basket { amounts: [0; 4] }
     }
 

@@ -33,11 +33,17 @@ pub trait Money: Copy {
     // Reading reverses writing.
     law back: { (x : Self) → terms .stands (terms .written (asset x)) ≡ asset x };
 
-    // The count of bytes, for code that holds any kind.
+    // The three constants, for code that holds any kind.
+    fn asset_count() -> usize
+        ensures { λ r. ⌜ r ≡ terms .assets ⌝ };
+
+    fn most_units() -> u64
+        ensures { λ r. ⌜ r ≡ terms .limit ⌝ };
+
     fn byte_width() -> usize
         ensures { λ r. ⌜ r ≡ terms .width ⌝ };
 
-    fn none() -> Self
+    fn nothing() -> Self
         ensures { λ r. ⌜ asset r ≡ nothing ⌝ };
 
     fn sum(&self, other: &Self) -> Option<Self>

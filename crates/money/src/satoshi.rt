@@ -46,11 +46,19 @@ pub impl Money for Satoshi as SatoshiMoney {
 
     ghost asset = { λ s k. getD (s .value ∷ []) k 0 };
 
+    fn asset_count() -> usize {
+        Self::ASSETS
+    }
+
+    fn most_units() -> u64 {
+        Self::LIMIT
+    }
+
     fn byte_width() -> usize {
         Self::WIDTH
     }
 
-    fn none() -> Satoshi {
+    fn nothing() -> Satoshi {
         Satoshi { value: 0 }
     }
 
