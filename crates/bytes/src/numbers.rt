@@ -8,19 +8,19 @@ ghost use Rattle.bytes.specs.Places.{part};
 pub fn to_bytes2(n: u16) -> [u8; 2]
     ensures { λ r. ⌜ r ≡ bytes-of 2 n ⌝ }
 {
-    n.to_be_bytes()
+    u16::to_be_bytes(n)
 }
 
 pub fn to_bytes4(n: u32) -> [u8; 4]
     ensures { λ r. ⌜ r ≡ bytes-of 4 n ⌝ }
 {
-    n.to_be_bytes()
+    u32::to_be_bytes(n)
 }
 
 pub fn to_bytes8(n: u64) -> [u8; 8]
     ensures { λ r. ⌜ r ≡ bytes-of 8 n ⌝ }
 {
-    n.to_be_bytes()
+    u64::to_be_bytes(n)
 }
 
 // The number of two bytes from a place on.

@@ -5,11 +5,29 @@ ghost use lib.ListN.{length};
 ghost use Rattle.std.specs.Orderings.{Decides};
 ghost use Rattle.bytes.specs.Places.{part};
 
+// Whether two rows of bytes are the same.
+fn equal(a: &[u8], b: &[u8]) -> bool
+    ensures { λ r. ⌜ Decides r (now (a .entry) ≡ now (b .entry)) ⌝ }
+{
+    a == b
+}
+
 // Whether two values agree in all their bytes.
 pub fn same32(a: &[u8; 32], b: &[u8; 32]) -> bool
     ensures { λ r. ⌜ Decides r (now (a .entry) ≡ now (b .entry)) ⌝ }
 {
-    *a == *b
+    equal(a, b)
+}
+
+// A slice of 32 bytes as a value.
+fn as_value(bytes: &[u8]) -> &[u8; 32]
+    requires { ⌜ length (now bytes) ≡ 32 ⌝ }
+    ensures { λ r. ⌜ now r ≡ now (bytes .entry) ⌝ }
+{
+    match bytes.split_first_chunk::<32>() {
+        Some((value, _)) => value,
+        None => unreachable(),
+    }
 }
 
 // The value of 32 bytes from a place on, as a part of the slice.
@@ -17,8 +35,5 @@ pub fn value_at(bytes: &[u8], at: usize) -> &[u8; 32]
     requires { ⌜ at + 32 ≤ length (now bytes) ⌝ }
     ensures { λ r. ⌜ now r ≡ part at 32 (now (bytes .entry)) ⌝ }
 {
-    match bytes[at..].split_first_chunk::<32>() {
-        Some((value, _)) => value,
-        None => unreachable(),
-    }
+    as_value(&bytes[at..at + 32])
 }

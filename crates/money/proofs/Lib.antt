@@ -1,3 +1,3 @@
 pub mod Contains
 pub mod Eights
-pub mod Rows
+pub mod Filling

@@ -1,13 +1,19 @@
 -- Amounts of money: one whole number for each asset, and the arithmetic of the rules on them.
 use Prim.Native.Nat.{ℕ, zero, suc, _+_, _-_, min}
 use mathlib.Core.Bool.{Bool, true, cond, _&&_}
+use mathlib.Core.List.{List}
 use lib.Dec.{leb, eqb}
+use lib.ListN.{getD}
 use Rattle.std.specs.declared.option.Option.{Option}
 use Rattle.std.specs.declared.option.Option.the-variants.{Some, None}
 
 -- An amount says of each asset how many units it holds; past the last asset it holds none.
 abbrev pub Amount : Type 0
 Amount = ℕ → ℕ
+
+-- A row of numbers as an amount, one for each asset.
+abbrev pub row : List ℕ → Amount
+row numbers k = getD numbers k 0
 
 -- Nothing is zero everywhere.
 abbrev pub nothing : Amount

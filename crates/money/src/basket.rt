@@ -1,14 +1,13 @@
 // The basket: four assets.
 ghost use Prim.Native.Nat.{ℕ, _≤_};
 ghost use mathlib.Core.Path.{_≡_};
-ghost use mathlib.Core.Bool.{cond};
 ghost use lib.ListN.{length, getD};
 ghost use Rattle.std.specs.Options.{mapped};
-ghost use Rattle.money.specs.Amounts.{limited};
+ghost use Rattle.money.specs.Amounts.{row, limited};
 ghost use Rattle.money.specs.Terms.{eights};
 use crate::kind::Money;
+use crate::rows;
 use crate::units;
-use bytes::numbers::read_u64;
 use bytes::places::put_u64;
 
 #[derive(Clone, Copy)]
@@ -20,11 +19,9 @@ pub struct Basket {
 impl Basket {
     // A value, unless an asset passes the limit.
     pub fn new(amounts: [u64; 4]) -> Option<Basket>
-        ensures { λ r. ⌜ mapped (λ b k. getD (b .amounts) k 0) r ≡ limited 4 2100000000000000 (λ k. getD amounts k 0) ⌝ }
+        ensures { λ r. ⌜ mapped (λ b. row (b .amounts)) r ≡ limited 4 2100000000000000 (row amounts) ⌝ }
     {
-        for i in 0..4 {
-            let _ = units::limited(amounts[i])?;
-        }
+        let amounts = rows::within(amounts)?;
         Some(Basket { amounts })
     }
 
@@ -44,7 +41,7 @@ pub impl Money for Basket as BasketMoney {
 
     ghost terms = { eights 4 };
 
-    ghost asset = { λ b k. getD (b .amounts) k 0 };
+    ghost asset = { λ b. row (b .amounts) };
 
     fn asset_count() -> usize {
         Self::ASSETS
@@ -63,20 +60,12 @@ pub impl Money for Basket as BasketMoney {
     }
 
     fn sum(&self, other: &Basket) -> Option<Basket> {
-        let mut amounts = [0u64; 4];
-        for i in 0..4 {
-            let amount = units::sum(self.amounts[i], other.amounts[i])?;
-            amounts[i] = amount;
-        }
+        let amounts = rows::sum(&self.amounts, &other.amounts)?;
         Some(Basket { amounts })
     }
 
     fn difference(&self, other: &Basket) -> Option<Basket> {
-        let mut amounts = [0u64; 4];
-        for i in 0..4 {
-            let amount = units::difference(self.amounts[i], other.amounts[i])?;
-            amounts[i] = amount;
-        }
+        let amounts = rows::difference(&self.amounts, &other.amounts)?;
         Some(Basket { amounts })
     }
 
@@ -93,11 +82,7 @@ pub impl Money for Basket as BasketMoney {
     }
 
     fn read(bytes: &[u8]) -> Option<Basket> {
-        let mut amounts = [0u64; 4];
-        for i in 0..4 {
-            let amount = units::limited(read_u64(bytes, 8 * i))?;
-            amounts[i] = amount;
-        }
+        let amounts = rows::read(bytes)?;
         Some(Basket { amounts })
     }
 }

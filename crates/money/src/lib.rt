@@ -1,5 +1,6 @@
 // Money: what a kind of money means and does, and two kinds.
 pub mod basket;
 pub mod kind;
+mod rows;
 pub mod satoshi;
 mod units;

@@ -3,14 +3,13 @@ ghost use Prim.Native.Nat.{_≤_};
 ghost use mathlib.Core.List.{[], _∷_};
 ghost use mathlib.Core.Path.{_≡_};
 ghost use mathlib.Core.Bool.{cond};
-ghost use lib.ListN.{getD};
 ghost use lib.Dec.{leb};
 ghost use Rattle.std.specs.Options.{mapped};
 ghost use Rattle.std.specs.declared.option.Option.the-variants.{Some, None};
+ghost use Rattle.money.specs.Amounts.{row};
 ghost use Rattle.money.specs.Terms.{eights};
 use crate::kind::Money;
 use crate::units;
-use bytes::numbers::read_u64;
 use bytes::places::put_u64;
 
 #[derive(Clone, Copy)]
@@ -24,7 +23,7 @@ impl Satoshi {
     pub fn new(value: u64) -> Option<Satoshi>
         ensures { λ r. ⌜ mapped (λ s. s .value) r ≡ cond (leb value 2100000000000000) (Some value) None ⌝ }
     {
-        let value = units::limited(value)?;
+        let value = units::within(value)?;
         Some(Satoshi { value })
     }
 
@@ -44,7 +43,7 @@ pub impl Money for Satoshi as SatoshiMoney {
 
     ghost terms = { eights 1 };
 
-    ghost asset = { λ s k. getD (s .value ∷ []) k 0 };
+    ghost asset = { λ s. row (s .value ∷ []) };
 
     fn asset_count() -> usize {
         Self::ASSETS
@@ -63,12 +62,12 @@ pub impl Money for Satoshi as SatoshiMoney {
     }
 
     fn sum(&self, other: &Satoshi) -> Option<Satoshi> {
-        let value = units::sum(self.value, other.value)?;
+        let value = units::single_sum(self.value, other.value)?;
         Some(Satoshi { value })
     }
 
     fn difference(&self, other: &Satoshi) -> Option<Satoshi> {
-        let value = units::difference(self.value, other.value)?;
+        let value = units::single_difference(self.value, other.value)?;
         Some(Satoshi { value })
     }
 
@@ -83,7 +82,7 @@ pub impl Money for Satoshi as SatoshiMoney {
     }
 
     fn read(bytes: &[u8]) -> Option<Satoshi> {
-        let value = units::limited(read_u64(bytes, 0))?;
+        let value = units::single_read(bytes)?;
         Some(Satoshi { value })
     }
 }

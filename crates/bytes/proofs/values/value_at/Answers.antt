@@ -1,7 +1,11 @@
-use mathlib.Core.Path.{ap, _∙_}
-use lib.ListN.{take}
-use Rattle.std.proofs.shelf.Lists.{take-rest}
+use Prim.Native.Nat.{_+_, _-_}
+use mathlib.Core.Path.{_≡_, ap, _∙_}
+use lib.ListN.{take, drop}
+use native.Mathlib.Omega.{arith}
 use Rattle.bytes.proofs.values.value_at.Needs as need
 
 pub returns : need.returns
-returns c = c .in-Some .ensures tt .cases .0 ∙ ap (take 32) (take-rest (c .args .bytes .now) (c .args .at))
+returns c =
+    let at = c .args .at in
+    let count : at + 32 - at ≡ 32 = omega arith in
+    c .as-value .ensures ∙ ap (λ n. take n (drop at (c .args .bytes .now))) count

@@ -1,6 +1,7 @@
 use native.Mathlib.Omega.{arith}
 use Rattle.money.proofs.Eights.{eight-back, eight-long}
-use Rattle.money.proofs.Rows.{row, row-past}
+use Rattle.money.proofs.Filling.{row-past}
+use Rattle.money.specs.Amounts.{row}
 use Rattle.money.proofs.basket.BasketMoney.the-impl.Needs as need
 
 pub past-law : need.past-law

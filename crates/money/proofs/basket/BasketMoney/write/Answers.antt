@@ -7,7 +7,7 @@ use Rattle.bytes.specs.Places.{over}
 use Rattle.bytes.proofs.Parts.{over-none, over-over}
 use Rattle.money.specs.Terms.{eight-each}
 use Rattle.money.proofs.Eights.{eight-long, eight-more}
-use Rattle.money.proofs.Rows.{row}
+use Rattle.money.specs.Amounts.{row}
 use Rattle.money.proofs.basket.BasketMoney.write.Needs as need
 
 pub loop-i-holds : need.loop-i-holds

@@ -3,7 +3,7 @@ use mathlib.Core.Path.{_≡_, refl}
 use mathlib.Core.List.{[], _∷_}
 use native.Mathlib.Omega.{arith}
 use Rattle.money.proofs.Eights.{eight-back}
-use Rattle.money.proofs.Rows.{row}
+use Rattle.money.specs.Amounts.{row}
 use Rattle.money.proofs.satoshi.SatoshiMoney.the-impl.Needs as need
 
 pub back-law : need.back-law
