@@ -1,4 +1,1 @@
-pub mod Hex
-pub mod Lines
-pub mod Numbers
 pub mod Parsing

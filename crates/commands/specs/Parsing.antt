@@ -1,14 +1,13 @@
 -- What the lines of a book ask for.
-use Prim.Native.Nat.{ℕ, zero, suc}
+use Prim.Native.Nat.{ℕ, zero, suc, _<_}
 use mathlib.Core.Path.{_≡_}
-use mathlib.Core.Bool.{Bool, true, false, cond}
-use mathlib.Core.List.{List, [], _∷_}
+use mathlib.Core.Bool.{true, false}
+use mathlib.Core.List.{List, []}
 use mathlib.Core.Logic.{_⊎_}
+use denote.Ref.{RefT, now}
 use lib.Chars.{codes}
 use lib.ListN.{length}
 use Rattle.std.specs.Of.Vec.{vec-items}
-use Rattle.std.specs.declared.vec.Vec.{Vec}
-use Rattle.std.specs.declared.alloc.Global.{Global}
 use Rattle.std.specs.declared.option.Option.{Option}
 use Rattle.std.specs.declared.option.Option.the-variants.{Some, None}
 use Rattle.std.specs.declared.result.Result.{Result}
@@ -18,9 +17,10 @@ use Rattle.commands.specs.declared.command.Command.the-variants.{Sha, Read, Op
 use Rattle.commands.specs.declared.command.LockName.{LockName}
 use Rattle.commands.specs.declared.command.LockName.the-variants.{Hash, Group}
 use Rattle.commands.specs.declared.fault.Fault.{Fault}
-use Rattle.commands.specs.Hex.{bytes-from, value-from}
-use Rattle.commands.specs.Lines.{front, is-blank, first-word, later-words, passed-over, printable}
-use Rattle.commands.specs.Numbers.{Reads-number}
+use Rattle.commands.specs.declared.fault.Fault.the-variants.{NoMemory}
+use Rattle.notation.specs.Hex.{bytes-from, value-from}
+use Rattle.notation.specs.Lines.{front, is-blank, first-word, later-words, passed-over, printable}
+use Rattle.notation.specs.Numbers.{Reads-number}
 
 -- What stands behind so many words, and the word there.
 abbrev pub behind : ℕ → List ℕ → List ℕ
@@ -36,7 +36,7 @@ Ended line = front is-blank line ≡ length line
 
 -- A message is written in hex, an empty one as a dash.
 abbrev pub Is-message : List ℕ → List ℕ → Type 0
-Is-message w bytes = ((w ≡ codes "-") × (bytes ≡ [])) ⊎ (bytes-from w ≡ Some bytes)
+Is-message w bytes = ((w ≡ codes "-") × (bytes ≡ [])) ⊎ ((0 < length w) × (bytes-from w ≡ Some bytes))
 
 -- A number, and a value of 32 bytes.
 abbrev pub Is-number : List ℕ → ℕ → Type 0
@@ -80,8 +80,18 @@ Takes line (CarryValue lock value tweak) = Is-lock line lock × Carries (behind-
 abbrev pub Asks : List ℕ → Command → Type 0
 Asks line command = (word 0 line ≡ name-of command) × Takes (behind 1 line) command
 
--- Every line is passed over, a command, or a fault.
+-- What is read fits; a refusal says that nothing fits, or that memory is wanting.
+abbrev pub Reads : {A : Type 0} → (A → Type 0) → Result A Fault → Type 0
+Reads Fits (Ok a) = Fits a
+Reads {A} Fits (Err fault) = (fault ≡ NoMemory) ⊎ ((a : A) → Fits a → ⊥)
+
+-- The next word of a line, which is missing where only blanks are left.
+abbrev pub Next-word : List ℕ → Result (RefT (List ℕ)) Fault → Type 0
+Next-word line (Ok w) = (now w ≡ first-word line) × (0 < length (first-word line))
+Next-word line (Err fault) = first-word line ≡ []
+
+-- Every line is passed over, a command, or a fault: no line that asks for a command has a fault.
 abbrev pub Parsed : List ℕ → Result (Option Command) Fault → Type 0
 Parsed line (Ok None) = passed-over line ≡ true
 Parsed line (Ok (Some command)) = (passed-over line ≡ false) × (printable line ≡ true) × Asks line command
-Parsed line (Err fault) = passed-over line ≡ false
+Parsed line (Err fault) = (passed-over line ≡ false) × ((fault ≡ NoMemory) ⊎ ((command : Command) → printable line ≡ true → Asks line command → ⊥))

@@ -1,4 +1,6 @@
 // What is wrong with a line that cannot be read.
+ghost use mathlib.Core.Path.{_≡_};
+ghost use Rattle.commands.specs.declared.fault.Fault.the-variants.{NoMemory};
 use std::alloc::AllocError;
 use std::fmt;
 
@@ -18,6 +20,8 @@ pub enum Fault {
 }
 
 pub impl From<AllocError> for Fault as FaultFromAllocError {
+    ghost converts = { λ _ fault. fault ≡ NoMemory };
+
     fn from(_error: AllocError) -> Fault {
         Fault::NoMemory
     }

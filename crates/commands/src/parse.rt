@@ -1,16 +1,15 @@
 // From a line to what it asks for.
 ghost use mathlib.Core.Path.{_≡_};
 ghost use lib.Chars.{codes};
-ghost use Rattle.std.specs.Vec.{made};
-ghost use Rattle.commands.specs.Lines.{without-return};
-ghost use Rattle.commands.specs.Parsing.{name-of, Takes, Asks, Parsed};
+ghost use Rattle.notation.specs.Lines.{without-return};
+ghost use Rattle.commands.specs.Parsing.{name-of, Takes, Asks, Reads, Parsed};
 use crate::command::Command;
 use crate::fault::Fault;
-use crate::lines::is_passed_over;
-use crate::lines::is_printable;
-use crate::lines::without_return;
 use crate::words::Words;
 use crate::words::is_text;
+use notation::lines::is_passed_over;
+use notation::lines::is_printable;
+use notation::lines::without_return;
 use std::alloc::Global;
 
 // A command, or nothing where the line is passed over.
@@ -29,7 +28,7 @@ pub fn parse(heap: Global, line: &[u8]) -> Result<Option<Command>, Fault>
 }
 
 fn parse_command(heap: Global, line: &[u8]) -> Result<Command, Fault>
-    ensures { λ r. ⌜ made r (λ c. Asks (now (line .entry)) c) ⌝ }
+    ensures { λ r. ⌜ Reads (λ c. Asks (now (line .entry)) c) r ⌝ }
 {
     let mut words = Words::new(line);
     let name = words.word()?;
@@ -47,7 +46,7 @@ fn parse_command(heap: Global, line: &[u8]) -> Result<Command, Fault>
 }
 
 fn parse_sha(heap: Global, words: &mut Words<'_>) -> Result<Command, Fault>
-    ensures { λ r. ⌜ made r (λ c. (codes "sha" ≡ name-of c) × Takes (now (now (words .entry) .rest)) c) ⌝ }
+    ensures { λ r. ⌜ Reads (λ c. (codes "sha" ≡ name-of c) × Takes (now (now (words .entry) .rest)) c) r ⌝ }
 {
     let message = words.message(heap)?;
     words.end()?;
@@ -55,7 +54,7 @@ fn parse_sha(heap: Global, words: &mut Words<'_>) -> Result<Command, Fault>
 }
 
 fn parse_read(heap: Global, words: &mut Words<'_>) -> Result<Command, Fault>
-    ensures { λ r. ⌜ made r (λ c. (codes "read" ≡ name-of c) × Takes (now (now (words .entry) .rest)) c) ⌝ }
+    ensures { λ r. ⌜ Reads (λ c. (codes "read" ≡ name-of c) × Takes (now (now (words .entry) .rest)) c) r ⌝ }
 {
     let channel = words.number()?;
     let message = words.message(heap)?;
@@ -64,7 +63,7 @@ fn parse_read(heap: Global, words: &mut Words<'_>) -> Result<Command, Fault>
 }
 
 fn parse_opens(words: &mut Words<'_>) -> Result<Command, Fault>
-    ensures { λ r. ⌜ made r (λ c. (codes "opens" ≡ name-of c) × Takes (now (now (words .entry) .rest)) c) ⌝ }
+    ensures { λ r. ⌜ Reads (λ c. (codes "opens" ≡ name-of c) × Takes (now (now (words .entry) .rest)) c) r ⌝ }
 {
     let lock = words.lock()?;
     let key = words.value()?;
@@ -74,7 +73,7 @@ fn parse_opens(words: &mut Words<'_>) -> Result<Command, Fault>
 }
 
 fn parse_carry(words: &mut Words<'_>) -> Result<Command, Fault>
-    ensures { λ r. ⌜ made r (λ c. (codes "carry" ≡ name-of c) × Takes (now (now (words .entry) .rest)) c) ⌝ }
+    ensures { λ r. ⌜ Reads (λ c. (codes "carry" ≡ name-of c) × Takes (now (now (words .entry) .rest)) c) r ⌝ }
 {
     let lock = words.lock()?;
     let what = words.word()?;

@@ -3,14 +3,14 @@ ghost use mathlib.Core.Path.{_≡_};
 ghost use Rattle.std.specs.Orderings.{Decides};
 ghost use Rattle.std.specs.Of.Vec.{vec-items};
 ghost use Rattle.std.specs.Vec.{made};
-ghost use Rattle.commands.specs.Lines.{first-word, later-words};
-ghost use Rattle.commands.specs.Parsing.{Ended, Is-message, Is-number, Is-value, Is-lock, behind-lock};
+ghost use Rattle.notation.specs.Lines.{first-word, later-words};
+ghost use Rattle.commands.specs.Parsing.{Ended, Is-message, Is-number, Is-value, Is-lock, behind-lock, Reads, Next-word};
 use crate::command::LockName;
 use crate::fault::Fault;
 use crate::fault::FaultFromAllocError;
-use crate::hex;
-use crate::lines::split_word;
-use crate::number::number;
+use notation::hex;
+use notation::lines::split_word;
+use notation::number::number;
 use std::alloc::Global;
 
 // Whether a word is this text.
@@ -34,7 +34,8 @@ impl<'a> Words<'a> {
 
     // The next word.
     pub fn word(&mut self) -> Result<&'a [u8], Fault>
-        ensures { λ r. ⌜ made r (λ w. (now w ≡ first-word (now (now (self .entry) .rest))) × (now (now (self .exit) .rest) ≡ later-words (now (now (self .entry) .rest)))) ⌝ }
+        ensures value { λ r. ⌜ Next-word (now (now (self .entry) .rest)) r ⌝ }
+        ensures rest { λ r. ⌜ made r (λ _. now (now (self .exit) .rest) ≡ later-words (now (now (self .entry) .rest))) ⌝ }
     {
         match split_word(self.rest) {
             Some((word, rest)) => {
@@ -46,7 +47,8 @@ impl<'a> Words<'a> {
     }
 
     pub fn number(&mut self) -> Result<u64, Fault>
-        ensures { λ r. ⌜ made r (λ n. Is-number (first-word (now (now (self .entry) .rest))) n × (now (now (self .exit) .rest) ≡ later-words (now (now (self .entry) .rest)))) ⌝ }
+        ensures value { λ r. ⌜ Reads (Is-number (first-word (now (now (self .entry) .rest)))) r ⌝ }
+        ensures rest { λ r. ⌜ made r (λ _. now (now (self .exit) .rest) ≡ later-words (now (now (self .entry) .rest))) ⌝ }
     {
         match number(self.word()?) {
             Some(n) => Ok(n),
@@ -55,7 +57,8 @@ impl<'a> Words<'a> {
     }
 
     pub fn value(&mut self) -> Result<[u8; 32], Fault>
-        ensures { λ r. ⌜ made r (λ v. Is-value (first-word (now (now (self .entry) .rest))) v × (now (now (self .exit) .rest) ≡ later-words (now (now (self .entry) .rest)))) ⌝ }
+        ensures value { λ r. ⌜ Reads (Is-value (first-word (now (now (self .entry) .rest)))) r ⌝ }
+        ensures rest { λ r. ⌜ made r (λ _. now (now (self .exit) .rest) ≡ later-words (now (now (self .entry) .rest))) ⌝ }
     {
         match hex::decode_value(self.word()?) {
             Some(value) => Ok(value),
@@ -65,7 +68,8 @@ impl<'a> Words<'a> {
 
     // A message in hex; an empty one is a dash.
     pub fn message(&mut self, heap: Global) -> Result<Vec<u8>, Fault>
-        ensures { λ r. ⌜ made r (λ m. Is-message (first-word (now (now (self .entry) .rest))) (vec-items m) × (now (now (self .exit) .rest) ≡ later-words (now (now (self .entry) .rest)))) ⌝ }
+        ensures value { λ r. ⌜ Reads (λ m. Is-message (first-word (now (now (self .entry) .rest))) (vec-items m)) r ⌝ }
+        ensures rest { λ r. ⌜ made r (λ _. now (now (self .exit) .rest) ≡ later-words (now (now (self .entry) .rest))) ⌝ }
     {
         let word = self.word()?;
         if is_text(word, b"-") {
@@ -78,7 +82,8 @@ impl<'a> Words<'a> {
     }
 
     pub fn lock(&mut self) -> Result<LockName, Fault>
-        ensures { λ r. ⌜ made r (λ l. Is-lock (now (now (self .entry) .rest)) l × (now (now (self .exit) .rest) ≡ behind-lock (now (now (self .entry) .rest)) l)) ⌝ }
+        ensures value { λ r. ⌜ Reads (Is-lock (now (now (self .entry) .rest))) r ⌝ }
+        ensures rest { λ r. ⌜ made r (λ l. now (now (self .exit) .rest) ≡ behind-lock (now (now (self .entry) .rest)) l) ⌝ }
     {
         let word = self.word()?;
         if is_text(word, b"hash") {
@@ -99,7 +104,7 @@ impl<'a> Words<'a> {
 
     // Nothing but blanks is left.
     pub fn end(&mut self) -> Result<(), Fault>
-        ensures { λ r. ⌜ made r (λ _. Ended (now (now (self .entry) .rest))) ⌝ }
+        ensures { λ r. ⌜ Reads (λ _. Ended (now (now (self .entry) .rest))) r ⌝ }
     {
         match split_word(self.rest) {
             Some(_) => Err(Fault::ExtraWord),

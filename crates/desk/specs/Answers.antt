@@ -14,7 +14,7 @@ use Rattle.std.specs.declared.option.Option.the-variants.{Some, None}
 use Rattle.commands.specs.declared.command.Command.{Command}
 use Rattle.commands.specs.declared.command.Command.the-variants.{Sha, Read, Opens, CarryKey, CarryValue}
 use Rattle.commands.specs.declared.command.LockName.{LockName}
-use Rattle.commands.specs.Hex.{hex-of}
+use Rattle.notation.specs.Hex.{hex-of}
 use Rattle.messages.specs.Contents.{Content}
 use Rattle.messages.specs.Reading.{read-message}
 use Rattle.money.specs.Amounts.{Amount, limited}

@@ -6,7 +6,7 @@ use lib.Chars.{codes}
 use Rattle.std.specs.Written.{decimal}
 use Rattle.std.specs.declared.option.Option.{Option}
 use Rattle.std.specs.declared.option.Option.the-variants.{Some, None}
-use Rattle.commands.specs.Hex.{hex-of}
+use Rattle.notation.specs.Hex.{hex-of}
 use Rattle.messages.specs.Contents.{Content, add, fulfil, fail, signed, revoked, fee, reestablish}
 use Rattle.messages.specs.declared.fault.Refusal.{Refusal}
 use Rattle.money.specs.Amounts.{Amount}

@@ -7,9 +7,9 @@ ghost use Rattle.messages.specs.Contents.{content, add};
 ghost use Rattle.desk.specs.Answers.{amount-read};
 ghost use Rattle.desk.specs.Texts.{amount-text, revoked-text, reestablish-text, content-text};
 use crate::amount::Show;
-use commands::hex;
 use messages::message::Message;
 use money::kind::Money;
+use notation::hex;
 use std::alloc::AllocError;
 use std::alloc::Global;
 

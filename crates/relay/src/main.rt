@@ -2,12 +2,12 @@
 use commands::command::Command;
 use commands::fault::Fault;
 use commands::fault::FaultDisplay;
-use commands::lines::split_line;
 use commands::parse::parse;
 use desk::pages::Statement;
 use desk::pages::name;
 use desk::pages::page;
 use desk::questions::answer;
+use notation::lines::split_line;
 use std::env;
 use std::error::AnyError;
 use std::fs;
