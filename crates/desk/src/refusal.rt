@@ -7,7 +7,7 @@ use std::alloc::AllocError;
 use std::alloc::Global;
 
 // What a number means, the same wherever it comes.
-pub fn words(number: u8) -> &'static str {
+fn words(number: u8) -> &'static str {
     match number {
         1 => "the channel is not made, or is not in the condition that the call needs",
         2 => "the buffer is shorter than the message",
