@@ -30,10 +30,19 @@ fn as_value(bytes: &[u8]) -> &[u8; 32]
     }
 }
 
+// The 32 bytes from a place on.
+fn bytes_at(bytes: &[u8], at: usize) -> &[u8]
+    requires { ⌜ at + 32 ≤ length (now bytes) ⌝ }
+    ensures bytes { λ r. ⌜ now r ≡ part at 32 (now (bytes .entry)) ⌝ }
+    ensures long { λ r. ⌜ length (now r) ≡ 32 ⌝ }
+{
+    &bytes[at..at + 32]
+}
+
 // The value of 32 bytes from a place on, as a part of the slice.
 pub fn value_at(bytes: &[u8], at: usize) -> &[u8; 32]
     requires { ⌜ at + 32 ≤ length (now bytes) ⌝ }
     ensures { λ r. ⌜ now r ≡ part at 32 (now (bytes .entry)) ⌝ }
 {
-    as_value(&bytes[at..at + 32])
+    as_value(bytes_at(bytes, at))
 }
