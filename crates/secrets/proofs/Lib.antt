@@ -1,0 +1,4 @@
+pub mod Back
+pub mod Derivations
+pub mod Places
+pub mod Zeros
