@@ -1,0 +1,3 @@
+// Tests of the secrets by public examples.
+#[cfg(test)]
+mod bolt3;
