@@ -1,0 +1,3 @@
+pub mod Gross
+pub mod Logs
+pub mod Resolutions
