@@ -1,0 +1,4 @@
+pub mod Bytes
+pub mod Commitments
+pub mod Payments
+pub mod Sinks

@@ -1,0 +1,70 @@
+// The parts of a commitment, put into a sink.
+ghost use Prim.Native.Nat.{_+_};
+ghost use mathlib.Core.List.{List, [], _∷_, _++_};
+ghost use Rattle.bytes.specs.Numbers.{bytes-of};
+ghost use Rattle.std.specs.Joined.{joined};
+ghost use Rattle.logs.specs.Logs.{mean, means};
+ghost use Rattle.commitments.specs.Bytes.{side-byte, payment-bytes};
+ghost use Rattle.commitments.specs.Commitments.{listed-one, listed};
+ghost use Rattle.commitments.specs.Payments.{payment};
+ghost use Rattle.commitments.specs.Sinks.{Puts};
+use crate::side::Side;
+use crate::sink::Sink;
+use bytes::numbers::to_bytes2;
+use bytes::numbers::to_bytes4;
+use bytes::numbers::to_bytes8;
+use logs::scan::is_resolved;
+use logs::update::Update;
+use money::kind::Money;
+
+// The side as one byte.
+pub fn put_side<S: Sink>(sink: &mut S, side: Side)
+    ensures { λ _. ⌜ Puts (S·Sink .took) (now (sink .entry)) (side-byte side ∷ []) (now (sink .exit)) ⌝ }
+{
+    match side {
+        Side::Funder => sink.put(&[0]),
+        Side::Other => sink.put(&[1]),
+    }
+}
+
+// The two bytes of a number.
+pub fn put_u16<S: Sink>(sink: &mut S, number: u16)
+    ensures { λ _. ⌜ Puts (S·Sink .took) (now (sink .entry)) (bytes-of 2 number) (now (sink .exit)) ⌝ }
+{
+    sink.put(&to_bytes2(number));
+}
+
+// The four bytes of a number.
+pub fn put_u32<S: Sink>(sink: &mut S, number: u32)
+    ensures { λ _. ⌜ Puts (S·Sink .took) (now (sink .entry)) (bytes-of 4 number) (now (sink .exit)) ⌝ }
+{
+    sink.put(&to_bytes4(number));
+}
+
+// The eight bytes of a number.
+pub fn put_u64<S: Sink>(sink: &mut S, number: u64)
+    ensures { λ _. ⌜ Puts (S·Sink .took) (now (sink .entry)) (bytes-of 8 number) (now (sink .exit)) ⌝ }
+{
+    sink.put(&to_bytes8(number));
+}
+
+// The bytes of an amount, by way of a row as wide as any money.
+pub fn put_money<M: Money, S: Sink>(sink: &mut S, amount: &M)
+    ensures { λ _. ⌜ Puts (S·Sink .took) (now (sink .entry)) (M·Money .terms .written (M·Money .asset (now (amount .entry)))) (now (sink .exit)) ⌝ }
+{
+    let mut row = [0u8; 1024];
+    let width = M::byte_width();
+    amount.write(&mut row, 0);
+    sink.put(&row[0..width]);
+}
+
+// One pending payment.
+fn put_payment<M: Money, S: Sink>(sink: &mut S, side: Side, id: u16, amount: &M, value: &[u8; 32], expiry: u32)
+    ensures { λ _. ⌜ Puts (S·Sink .took) (now (sink .entry)) (payment-bytes (M·Money .terms) (payment side id (M·Money .asset (now (amount .entry))) (now (value .entry)) expiry)) (now (sink .exit)) ⌝ }
+{
+    put_side(sink, side);
+    put_u16(sink, id);
+    put_money(sink, amount);
+    sink.put(value);
+    put_u32(sink, expiry);
+}
