@@ -15,7 +15,7 @@ module _ (at : ℕ) (row : List ℕ) where
   filled-none = record { bytes = sym (over-none row at); behind = sym (add-zero at); long = refl }
 
   pub filled-more : (m piece : List ℕ) (next : ℕ) (filled filled′ : List ℕ) → at + length (m ++ piece) ≤ length row → Filled at row m next filled
-    → filled′ ≡ over filled next piece → length filled′ ≡ length filled → Filled at row (m ++ piece) (next + length piece) filled′
+      → filled′ ≡ over filled next piece → length filled′ ≡ length filled → Filled at row (m ++ piece) (next + length piece) filled′
   filled-more m piece next filled filled′ room so-far put same =
       let behind = so-far .behind in
       let both = length-append m piece in
@@ -34,3 +34,7 @@ module _ {S : Type 0} (took : S → List ℕ → S → Type 0) where
 
   pub puts-none : (a : S) → Puts took a [] a
   puts-none a start m h = let P : List ℕ → Type 0 = λ n. took start n a in subst P (sym (append-nil m)) h
+
+  -- A piece by another name.
+  pub puts-same : (a b : S) (p q : List ℕ) → p ≡ q → Puts took a p b → Puts took a q b
+  puts-same a b p q same put start m h = let P : List ℕ → Type 0 = λ n. took start (m ++ n) b in subst P same (put start m h)

@@ -1,1 +1,3 @@
+pub mod Fees
 pub mod Fills
+pub mod Listing

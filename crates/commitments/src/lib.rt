@@ -1,4 +1,6 @@
 // Commitments: fee, outputs, bytes and signature.
+pub mod heading;
+pub mod price;
 pub mod put;
 pub mod side;
 pub mod sink;

@@ -59,7 +59,14 @@ pub fn put_money<M: Money, S: Sink>(sink: &mut S, amount: &M)
 }
 
 // One pending payment.
-fn put_payment<M: Money, S: Sink>(sink: &mut S, side: Side, id: u16, amount: &M, value: &[u8; 32], expiry: u32)
+fn put_payment<M: Money, S: Sink>(
+    sink: &mut S,
+    side: Side,
+    id: u16,
+    amount: &M,
+    value: &[u8; 32],
+    expiry: u32,
+)
     ensures { λ _. ⌜ Puts (S·Sink .took) (now (sink .entry)) (payment-bytes (M·Money .terms) (payment side id (M·Money .asset (now (amount .entry))) (now (value .entry)) expiry)) (now (sink .exit)) ⌝ }
 {
     put_side(sink, side);
@@ -67,4 +74,35 @@ fn put_payment<M: Money, S: Sink>(sink: &mut S, side: Side, id: u16, amount: &M,
     put_money(sink, amount);
     sink.put(value);
     put_u32(sink, expiry);
+}
+
+// One update: a payment where it is a pending add, and nothing otherwise.
+fn put_update<M: Money, S: Sink>(sink: &mut S, side: Side, update: &Update<M>, other: &[Update<M>])
+    ensures { λ _. ⌜ Puts (S·Sink .took) (now (sink .entry)) (joined (payment-bytes (M·Money .terms)) (listed-one side (means M·Money (now (other .entry))) (mean M·Money (now (update .entry))))) (now (sink .exit)) ⌝ }
+{
+    match update {
+        Update::Add {
+            id,
+            amount,
+            value,
+            expiry,
+            ..
+        } => {
+            if !is_resolved(other, *id) {
+                put_payment(sink, side, *id, amount, value, *expiry);
+            }
+        }
+        Update::Fulfil { .. } => {}
+        Update::Fail { .. } => {}
+        Update::Fee { .. } => {}
+    }
+}
+
+// The pending payments of a side, in the order of its log.
+pub fn put_log<M: Money, S: Sink>(sink: &mut S, side: Side, log: &[Update<M>], other: &[Update<M>])
+    ensures { λ _. ⌜ Puts (S·Sink .took) (now (sink .entry)) (joined (payment-bytes (M·Money .terms)) (listed side (means M·Money (now (other .entry))) (means M·Money (now (log .entry))))) (now (sink .exit)) ⌝ }
+{
+    for update in log {
+        put_update(sink, side, update, other);
+    }
 }

@@ -12,6 +12,12 @@ use Rattle.logs.specs.declared.update.Update.{Update}
 use Rattle.logs.specs.Gross.{moved, walked}
 use Rattle.logs.specs.Logs.{Log, mean, means, pending-one, pending-count}
 
+-- The front of a log with one update more.
+module _ {M : Type 0} (kind : Ghosts M) (log : List (Update M)) where
+  pub front-more : (i : ℕ) (update : Update M) → i < length log → update ≡ getD log i update → means kind (take (i + 1) log) ≡ means kind (take i log) ++ mean kind update ∷ []
+  front-more i update inside is =
+      ap (means kind) (take-more log i update inside ∙ ap (λ u. take i log ++ u ∷ []) (sym is)) ∙ map-push (mean kind) (take i log) update
+
 -- Where a walk over the first so many updates stands at an index.
 pub record Walked-to {M : Type 0} (kind : Ghosts M) (share : M) (log : List (Update M)) (count : ℕ) (other : List (Update M)) (i : ℕ) (gross : M) (pending : ℕ) : Type 0 where
   pub within : i ≤ count
@@ -20,10 +26,6 @@ pub record Walked-to {M : Type 0} (kind : Ghosts M) (share : M) (log : List (Upd
   pub pending-is : pending ≡ pending-count (means kind other) (means kind (take i log))
 
 module _ {M : Type 0} (kind : Ghosts M) (share : M) (log : List (Update M)) (count : ℕ) (other : List (Update M)) where
-  front-more : (i : ℕ) (update : Update M) → i < length log → update ≡ getD log i update → means kind (take (i + 1) log) ≡ means kind (take i log) ++ mean kind update ∷ []
-  front-more i update inside is =
-      ap (means kind) (take-more log i update inside ∙ ap (λ u. take i log ++ u ∷ []) (sym is)) ∙ map-push (mean kind) (take i log) update
-
   pub walked-none : Walked-to kind share log count other 0 share 0
   walked-none = record { within = omega arith; bound = omega arith; gross-is = refl; pending-is = refl }
 
@@ -33,7 +35,7 @@ module _ {M : Type 0} (kind : Ghosts M) (share : M) (log : List (Update M)) (cou
       → one ≡ pending-one (means kind other) (mean kind update) → one ≤ 1
       → Walked-to kind share log count other (i + 1) gross′ (pending + one)
   walked-more i gross gross′ pending one update inside few is so-far moves counts small =
-      let more = front-more i update inside is in
+      let more = front-more kind log i update inside is in
       let start = kind .asset share in
       record {
         within = omega arith;

@@ -1,5 +1,5 @@
 // The public examples of per-commitment secrets of BOLT 3, Appendix D.
-use commands::hex::decode_value;
+use notation::hex::decode_value;
 use secrets::derivation::derive;
 use secrets::store::Store;
 use std::test::*;

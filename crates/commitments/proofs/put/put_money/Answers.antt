@@ -15,7 +15,7 @@ returns g c =
     let width = c .byte-width-width .result in
     let long : length bytes ≡ width - 0 = (let w = g .M·Money·met .long (c .args .amount .now) in let e = c .byte-width-width .ensures in omega arith) in
     let written : take (width - 0) (c .write .last .out) ≡ bytes =
-        ap (take (width - 0)) (c .write .ensures ∙ over-front _ bytes) ∙ take-at bytes _ (width - 0) long in
+    ap (take (width - 0)) (c .write .ensures ∙ over-front _ bytes) ∙ take-at bytes _ (width - 0) long in
     λ start m took.
     let P : List ℕ → Type 0 = λ p. g .S·Sink .took start (m ++ p) (c .put .last .self) in
     subst P written (c .put .ensures start m took)

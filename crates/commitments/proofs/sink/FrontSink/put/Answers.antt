@@ -9,25 +9,25 @@ use Rattle.commitments.proofs.sink.FrontSink.put.Needs.{else-at-self·by·then
 
 pub returns-then-bytes-self : need.returns-then-bytes-self
 returns-then-bytes-self c =
-    λ start m took.
-    ( took .0
-    , λ room.
-      let both = length-append m (c .args .bytes .now) in
-      filled-more (start .at) (start .out .now) m (c .args .bytes .now) _ _ _ room (took .1 (omega arith)) (c .put .ensures) (omega arith)
+    λ start m took. (
+      took .0,
+      λ room.
+          let both = length-append m (c .args .bytes .now) in
+          filled-more (start .at) (start .out .now) m (c .args .bytes .now) _ _ _ room (took .1 (omega arith)) (c .put .ensures) (omega arith),
     )
 
 pub returns-else-at-self : need.returns-else-at-self
 returns-else-at-self c =
-    λ start m took.
-    ( took .0
-    , λ room.
-      let both = length-append m (c .args .bytes .now) in
-      let so-far = took .1 (omega arith) in
-      let behind = so-far .behind in
-      let long = so-far .long in
-      absurd
-      (elim (c .else-at-self .came)
-      [ else-at-self·by·then-at-self·else-bytes-self w ↦ omega (arith, w .if-at-self .taken, w .if-bytes-self .left)
-      | else-at-self·by·else-at-self w ↦ omega (arith, w .if-at-self .left)
-      ])
+    λ start m took. (
+      took .0,
+      λ room.
+          let both = length-append m (c .args .bytes .now) in
+          let so-far = took .1 (omega arith) in
+          let behind = so-far .behind in
+          let long = so-far .long in
+          absurd
+          (elim (c .else-at-self .came) [
+            | else-at-self·by·then-at-self·else-bytes-self w ↦ omega (arith, w .if-at-self .taken, w .if-bytes-self .left)
+            | else-at-self·by·else-at-self w ↦ omega (arith, w .if-at-self .left)
+          ]),
     )
