@@ -1,3 +1,4 @@
 pub mod Fees
 pub mod Fills
+pub mod Heads
 pub mod Listing

@@ -23,7 +23,7 @@ use Rattle.commitments.specs.Bytes.{payment-bytes}
 use Rattle.commitments.specs.Commitments.{Payment, listed-one, listed}
 use Rattle.commitments.specs.Payments.{payment}
 
-joined-append : {A : Type 0} (f : A → List ℕ) (xs ys : List A) → joined f (xs ++ ys) ≡ joined f xs ++ joined f ys
+pub joined-append : {A : Type 0} (f : A → List ℕ) (xs ys : List A) → joined f (xs ++ ys) ≡ joined f xs ++ joined f ys
 joined-append f [] ys = refl
 joined-append f (x ∷ xs) ys = ap (λ l. f x ++ l) (joined-append f xs ys) ∙ sym (append-assoc (f x) (joined f xs) (joined f ys))
 

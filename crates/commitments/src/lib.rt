@@ -1,4 +1,5 @@
 // Commitments: fee, outputs, bytes and signature.
+pub mod commitment;
 pub mod heading;
 pub mod price;
 pub mod put;
