@@ -1,5 +1,6 @@
 #!/usr/bin/env python3
 """Respells the repository's own definitions and lemmas: words in snake case, types in camel case.
+It also renames the crates that have the name of a library of the kit.
 
 usage: tools/respell.py [--list]     at the top of the repository, once, after the kit's port.py
 
@@ -19,8 +20,7 @@ BOUND = re.compile(r"(?:let |[({]|λ )((?:[A-Za-z_][\w'·-]* )*[A-Za-z_][\w'·-]
 FIELD = re.compile(r"\s+pub (" + WORD + r") :")
 OF_LIBRARY = re.compile(r"\s*(?:ghost )?use (?:Rattle\.std\.|lib\.|native\.|mathlib\.|denote\.|borrow\.|Prim)")
 WALKS = ("Answers.antt", "Invariants.antt", "Proof.antt")
-# steps of proofs that have the spelling of a definition
-STEPS = set()
+CRATES = {"bytes": "octets"}
 
 
 def files(*ends):
@@ -80,6 +80,22 @@ def turned(line, names, fields, walk):
     return TOKEN.sub(word, line)
 
 
+def rename_crates():
+    for old, new in CRATES.items():
+        if not os.path.isdir(os.path.join("crates", old)):
+            continue
+        os.rename(os.path.join("crates", old), os.path.join("crates", new))
+        for path in [*files(".antt", ".rt"), "crates.txt"]:
+            text = read(path)
+            if path == "crates.txt":
+                turned_text = re.sub(rf"(?m)^(.*)$", lambda m: m.group(0) if m.group(0).startswith("#") else re.sub(rf"\b{old}\b", new, m.group(0)), text)
+            else:
+                turned_text = re.sub(rf"\bRattle\.{old}\b", f"Rattle.{new}", re.sub(rf"(?m)^(\s*use ){old}\b", rf"\g<1>{new}", text))
+            if turned_text != text:
+                with open(path, "w", encoding="utf-8") as f:
+                    f.write(turned_text)
+
+
 def main():
     own, fields, kept = names_of_the_tree()
     names = {n: respelled(n) for n in sorted(own) if re.fullmatch(WORD, n)}
@@ -104,6 +120,7 @@ def main():
         if new != old:
             with open(path, "w", encoding="utf-8") as f:
                 f.write(new)
+    rename_crates()
 
 
 if __name__ == "__main__":

@@ -1,4 +1,6 @@
 // Hashes a value of 32 bytes two million times over, each time the digest before, and prints the front of the last one.
+#![tactic(auto)]
+
 ghost use Rattle.std.specs.Prelude.{◌≡◌};
 ghost use Rattle.bench_sha256.specs.Chain.{chain};
 

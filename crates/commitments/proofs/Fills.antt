@@ -1,8 +1,8 @@
 -- Filling a row piece by piece.
 use Rattle.std.proofs.Common.{◌≡◌, ℕ, ◌+◌, ◌≤◌, List, [], ◌++◌, length, sym, refl, ap, ◌∙◌, subst, add-zero, arith}
 use Rattle.std.proofs.lemmas.List.{length-append, append_assoc, append-nil}
-use Rattle.bytes.specs.Places.{over}
-use Rattle.bytes.proofs.Parts.{over_none, over_over}
+use Rattle.octets.specs.Places.{over}
+use Rattle.octets.proofs.Parts.{over_none, over_over}
 use Rattle.commitments.specs.Sinks.{Filled, Puts}
 
 module _ (at : ℕ) (row : List ℕ) where

@@ -1,6 +1,6 @@
 -- A heading and the commitment that it heads have the same bytes.
 use Rattle.std.proofs.Common.{◌≡◌, ℕ, List, [], ◌∷◌, ◌++◌, sym, ap, ◌∙◌}
-use Rattle.bytes.specs.Numbers.{bytes_of}
+use Rattle.octets.specs.Numbers.{bytes_of}
 use Rattle.money.specs.declared.kind.Money.{Ghosts}
 use Rattle.logs.specs.Logs.{means}
 use Rattle.logs.specs.declared.update.Update.{Update}

@@ -2,8 +2,8 @@
 use Rattle.std.proofs.Common.{◌≡◌, ℕ, ◌+◌, ◌*◌, ◌<◌, List, [], ◌∷◌, ◌++◌, length, get_or, sym, ap, ◌∙◌, arith}
 use Rattle.std.proofs.lemmas.List.{length-append}
 use Rattle.std.specs.List.{flat_map}
-use Rattle.bytes.specs.Numbers.{bytes_of}
-use Rattle.bytes.proofs.Laws.{bytes_length}
+use Rattle.octets.specs.Numbers.{bytes_of}
+use Rattle.octets.proofs.Laws.{bytes_length}
 use Rattle.money.specs.Terms.{Terms}
 use Rattle.money.specs.declared.kind.Money.{Ghosts}
 use Rattle.logs.specs.Logs.{Log, mean, means}

@@ -1,7 +1,7 @@
 -- The bytes of a commitment, and its signature.
 use Rattle.std.specs.Prelude.{ℕ, List, [], ◌∷◌, ◌++◌, length}
 use Rattle.std.specs.List.{flat_map}
-use Rattle.bytes.specs.Numbers.{bytes_of}
+use Rattle.octets.specs.Numbers.{bytes_of}
 use Rattle.money.specs.Terms.{Terms}
 use Rattle.sha256.specs.Fips.{hash}
 use Rattle.commitments.specs.declared.side.Side.{Side}

@@ -1,6 +1,6 @@
 -- The heading that the code makes, and the commitment that it heads.
 use Rattle.std.specs.Prelude.{◌≡◌, ℕ, ◌≤◌, List, [], ◌∷◌, ◌++◌, length}
-use Rattle.bytes.specs.Numbers.{bytes_of}
+use Rattle.octets.specs.Numbers.{bytes_of}
 use Rattle.std.specs.List.{flat_map}
 use Rattle.money.specs.declared.kind.Money.{Ghosts}
 use Rattle.logs.specs.Logs.{Log, means}

@@ -1,6 +1,6 @@
 -- Putting bytes into a sink, one piece behind another.
 use Rattle.std.specs.Prelude.{◌≡◌, ℕ, ◌+◌, ◌≤◌, List, ◌++◌, length}
-use Rattle.bytes.specs.Places.{over}
+use Rattle.octets.specs.Places.{over}
 
 -- The row with a piece over it from a place on, and the place behind it.
 pub record Filled (at : ℕ) (row piece : List ℕ) (next : ℕ) (filled : List ℕ) : Type 0 where

@@ -1,4 +1,6 @@
 // Commitments: fee, outputs, bytes and signature.
+#![tactic(auto)]
+
 pub mod commitment;
 pub mod heading;
 pub mod price;

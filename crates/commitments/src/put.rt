@@ -1,6 +1,6 @@
 // The parts of a commitment, put into a sink.
 ghost use Rattle.std.specs.Prelude.{◌+◌, List, [], ◌∷◌, ◌++◌};
-ghost use Rattle.bytes.specs.Numbers.{bytes_of};
+ghost use Rattle.octets.specs.Numbers.{bytes_of};
 ghost use Rattle.std.specs.List.{flat_map};
 ghost use Rattle.logs.specs.Logs.{mean, means};
 ghost use Rattle.commitments.specs.Bytes.{side_byte, payment_bytes};
@@ -10,7 +10,7 @@ ghost use Rattle.commitments.specs.Sinks.{Puts};
 
 use crate::side::Side;
 use crate::sink::Sink;
-use bytes::numbers::{to_bytes2, to_bytes4, to_bytes8};
+use octets::numbers::{to_bytes2, to_bytes4, to_bytes8};
 use logs::scan::is_resolved;
 use logs::update::Update;
 use money::kind::Money;

@@ -3,7 +3,7 @@ ghost use Rattle.std.specs.Prelude.{◌≡◌, ℕ, ◌+◌, ◌≤◌, List, le
 ghost use Rattle.sha256.specs.Stream.{Absorbed};
 ghost use Rattle.commitments.specs.Sinks.{Filled, Puts};
 
-use bytes::places::put;
+use octets::places::put;
 use sha256::hasher::Hasher;
 
 pub trait Sink {

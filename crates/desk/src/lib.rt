@@ -1,4 +1,6 @@
 // The desk: questions that need no node, and what it answers.
+#![tactic(auto)]
+
 pub mod amount;
 pub mod answer;
 pub mod named_lock;

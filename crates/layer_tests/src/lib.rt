@@ -1,4 +1,6 @@
 // Examples of the layers below the node.
+#![tactic(auto)]
+
 #[cfg(test)]
 mod commands_tests;
 #[cfg(test)]

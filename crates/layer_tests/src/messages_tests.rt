@@ -1,5 +1,5 @@
 // Messages of every type at every length, and their bytes.
-use bytes::places::put_u16;
+use octets::places::put_u16;
 use messages::fault::MessageFault;
 use messages::message::Message;
 use messages::reader::read;

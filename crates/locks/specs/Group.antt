@@ -1,7 +1,7 @@
 -- The group lock: powers of a base, by a modulus and an order.
 use Rattle.std.specs.Prelude.{◌≡◌, ℕ, ◌+◌, ◌*◌, ◌%◌, ◌^◌, ◌<◌, ◌≤◌, List, ◌++◌, replicate}
-use Rattle.bytes.specs.Numbers.{bytes_of, number_of}
-use Rattle.bytes.specs.Places.{part}
+use Rattle.octets.specs.Numbers.{bytes_of, number_of}
+use Rattle.octets.specs.Places.{part}
 use Rattle.locks.specs.Meaning.{Meaning}
 
 -- The numbers that a group may be made of.

@@ -2,7 +2,7 @@
 use Rattle.std.specs.Prelude.{◌≡◌, ℕ, zero, suc, ◌+◌, ◌*◌, ◌/◌, ◌%◌, ◌^◌, ◌<◌, List}
 use Rattle.std.proofs.Common.{sym, ap, ◌∙◌, mul_comm, one-mul, mul-zero, mul-suc, mul_assoc, mul_right_comm, add-mul, mod-lt, arith, pow-add}
 use Rattle.std.proofs.Math.Nat.{pow-zero, mod-add-div', div-add-mod, mod-mod, add-mul-mod_self_right}
-use Rattle.bytes.proofs.Laws.{number_back}
+use Rattle.octets.proofs.Laws.{number_back}
 use Rattle.locks.specs.Group.{number_in, as_value, group_lock}
 
 -- A factor may be cut by the modulus before or after.

@@ -7,9 +7,9 @@ ghost use Rattle.locks.specs.Turns;
 
 use crate::lock::Lock;
 use crate::power::power;
-use bytes::numbers::read_u64;
-use bytes::places::put_u64;
-use bytes::values::same32;
+use octets::numbers::read_u64;
+use octets::places::put_u64;
+use octets::values::same32;
 
 #[derive(Clone, Copy)]
 pub struct GroupLock {

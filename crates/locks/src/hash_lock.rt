@@ -3,7 +3,7 @@ ghost use Rattle.locks.specs.Meaning.{hash_lock};
 ghost use Rattle.std.proofs.Common.{rules};
 
 use crate::lock::Lock;
-use bytes::values::same32;
+use octets::values::same32;
 use sha256::sha256;
 
 #[derive(Clone, Copy)]

@@ -1,7 +1,7 @@
 -- Reading a message by its type and its length alone.
 use Rattle.std.specs.Prelude.{ℕ, ◌+◌, cond, List, [], ◌∷◌, length, Some, None, Ok, Err, Option, Result, ◌==◌}
-use Rattle.bytes.specs.Numbers.{number_of}
-use Rattle.bytes.specs.Places.{part}
+use Rattle.octets.specs.Numbers.{number_of}
+use Rattle.octets.specs.Places.{part}
 use Rattle.messages.specs.declared.message.Message.{Message}
 use Rattle.messages.specs.Contents.{Content, content, add, fulfil, fail, signed, revoked, fee, reestablish}
 

@@ -1,6 +1,6 @@
 -- Writing and reading undo each other.
 use Rattle.std.specs.Prelude.{◌≡◌, ℕ, List, Some}
-use Rattle.bytes.specs.Numbers.{Bytes}
+use Rattle.octets.specs.Numbers.{Bytes}
 use Rattle.money.specs.Amounts.{limited}
 use Rattle.money.specs.declared.kind.Money.{Ghosts}
 use Rattle.messages.specs.Contents.{Content, message_bytes, Fits}

@@ -5,12 +5,12 @@ ghost use Rattle.messages.specs.Contents.{content, fulfil, fail, signed, revoked
 ghost use Rattle.messages.specs.Reading.{contents, number_at, whole, read_add, read_fields, read_message};
 ghost use Rattle.messages.specs.RoundTrip.{RoundTrip};
 ghost use Rattle.messages.specs.declared.fault.MessageFault.TheVariants.{Malformed};
-ghost use Rattle.bytes.specs.Places.{part};
+ghost use Rattle.octets.specs.Places.{part};
 
 use crate::fault::MessageFault;
 use crate::message::Message;
-use bytes::numbers::{read_u16, read_u32, read_u64};
-use bytes::values::value_at;
+use octets::numbers::{read_u16, read_u32, read_u64};
+use octets::values::value_at;
 use money::kind::Money;
 
 const ADD: u16 = 128;

@@ -1,9 +1,9 @@
 // The writers: each puts its message at the front of a lent buffer, alters nothing behind it, and says how long it is.
 ghost use Rattle.std.specs.Prelude.{◌≡◌, ◌+◌, ◌≤◌, length};
-ghost use Rattle.bytes.specs.Places.{over};
+ghost use Rattle.octets.specs.Places.{over};
 ghost use Rattle.messages.specs.Contents.{message_bytes, add, fulfil, fail, signed, revoked, fee, reestablish};
 
-use bytes::places::{put, put_u16, put_u32, put_u64};
+use octets::places::{put, put_u16, put_u32, put_u64};
 use money::kind::Money;
 
 pub const FULFIL_LENGTH: usize = 36;

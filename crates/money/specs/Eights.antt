@@ -4,10 +4,10 @@ use Rattle.std.proofs.Common.{sym, ap, ◌∙◌, ⊎_elim, mul-suc, add-one, ar
 use Rattle.std.proofs.Math.Path.{fun_ext}
 use Rattle.std.proofs.lemmas.List.{length-append, drop-append-le, take-append-le, drop_at, drop_all, length-drop}
 use Rattle.std.proofs.lemmas.Bool.{cases_lt}
-use Rattle.bytes.specs.Numbers.{bytes_of, number_of, Bytes}
-use Rattle.bytes.specs.Places.{part}
-use Rattle.bytes.proofs.Laws.{number_back}
-use Rattle.bytes.proofs.Parts.{part_whole, part_join, part_back}
+use Rattle.octets.specs.Numbers.{bytes_of, number_of, Bytes}
+use Rattle.octets.specs.Places.{part}
+use Rattle.octets.proofs.Laws.{number_back}
+use Rattle.octets.proofs.Parts.{part_whole, part_join, part_back}
 use Rattle.money.specs.Amounts.{Amount}
 use Rattle.money.specs.Terms.{eight_each, eights}
 

@@ -1,7 +1,7 @@
 -- What a money kind fixes: its assets, their limit, and how an amount stands in bytes.
 use Rattle.std.specs.Prelude.{◌≡◌, ℕ, zero, suc, ◌*◌, List, [], ◌++◌, length}
-use Rattle.bytes.specs.Numbers.{bytes_of, number_of, Bytes}
-use Rattle.bytes.specs.Places.{part}
+use Rattle.octets.specs.Numbers.{bytes_of, number_of, Bytes}
+use Rattle.octets.specs.Places.{part}
 use Rattle.money.specs.Amounts.{Amount}
 
 pub record Terms : Type 0 where

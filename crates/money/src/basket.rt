@@ -9,7 +9,7 @@ ghost use Rattle.money.specs.Eights.{eight_back};
 
 use crate::kind::Money;
 use crate::{rows, units};
-use bytes::places::put_u64;
+use octets::places::put_u64;
 
 #[derive(Clone, Copy)]
 pub struct Basket {

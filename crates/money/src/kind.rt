@@ -1,7 +1,7 @@
 // What a kind of money is: a value means one whole number for each asset.
 ghost use Rattle.std.specs.Prelude.{◌≡◌, ℕ, ◌+◌, ◌<◌, ◌≤◌, length};
 ghost use Rattle.std.specs.Option.{option_map};
-ghost use Rattle.bytes.specs.Places.{over};
+ghost use Rattle.octets.specs.Places.{over};
 ghost use Rattle.money.specs.Amounts.{Amount, nothing, limited, sum_of, difference_of, units_from};
 ghost use Rattle.money.specs.Terms.{Terms, Rewritten, eights};
 

@@ -5,7 +5,7 @@ ghost use Rattle.money.specs.Amounts.{row, limited, sum_of, difference_of};
 ghost use Rattle.money.specs.Terms.{eights};
 
 use crate::units;
-use bytes::numbers::read_u64;
+use octets::numbers::read_u64;
 
 // The row, unless an asset passes the limit.
 pub fn within(amounts: [u64; 4]) -> Option<[u64; 4]>

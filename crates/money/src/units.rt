@@ -4,7 +4,7 @@ ghost use Rattle.std.specs.Option.{option_map};
 ghost use Rattle.money.specs.Amounts.{row, limited, sum_of, difference_of};
 ghost use Rattle.money.specs.Terms.{eights};
 
-use bytes::numbers::read_u64;
+use octets::numbers::read_u64;
 
 pub const LIMIT: u64 = 2_100_000_000_000_000;
 

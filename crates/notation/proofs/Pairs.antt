@@ -2,7 +2,7 @@
 use Rattle.std.proofs.Common.{◌≡◌, ℕ, suc, ◌+◌, ◌*◌, ◌/◌, ◌%◌, ◌<◌, ◌≤◌, List, [], ◌∷◌, ◌++◌, length, get_or, take, drop, Some, None, Option, sym, refl, ap, ◌∙◌, arith}
 use Rattle.std.proofs.lemmas.List.{take_more, flat_map_more, drop_more, drop_all, append_assoc, append-nil}
 use Rattle.std.proofs.lemmas.Bool.Decides.{nat_tests}
-use Rattle.bytes.specs.Numbers.{Bytes}
+use Rattle.octets.specs.Numbers.{Bytes}
 use Rattle.notation.specs.Hex.{digit_number, digit_of, hex_of, byte_of, before, bytes_from}
 
 -- The digits of one byte more.

@@ -1,7 +1,7 @@
 -- Bytes as hex digits, two a byte.
 use Rattle.std.specs.Prelude.{◌≡◌, ℕ, ◌+◌, ◌-◌, ◌*◌, ◌/◌, ◌%◌, Bool, cond, ◌&&◌, List, [], ◌∷◌, length, Some, None, Option, ◌==◌, nat_le, nat_lt}
 use Rattle.std.specs.List.{flat_map}
-use Rattle.bytes.specs.Numbers.{Bytes}
+use Rattle.octets.specs.Numbers.{Bytes}
 
 -- From one character to another.
 abbrev pub between : ℕ → ℕ → ℕ → Bool

@@ -1,4 +1,6 @@
 // Reads a book of commands, and prints its pages and a statement.
+#![tactic(auto)]
+
 use anyhow::anyhow;
 use commands::command::Command;
 use commands::fault::Fault;

@@ -4,7 +4,7 @@ ghost use Rattle.secrets.specs.Store.{no_secrets, place_of, agrees, answered, fi
 
 use crate::derivation::derive;
 use crate::known::Known;
-use bytes::values::same32;
+use octets::values::same32;
 
 #[derive(Clone, Copy)]
 pub struct Store {

@@ -1,3 +1,5 @@
 // Tests of the secrets by public examples.
+#![tactic(auto)]
+
 #[cfg(test)]
 mod bolt3;

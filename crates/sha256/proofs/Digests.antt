@@ -1,7 +1,7 @@
 -- A digest is of 32 bytes.
 use Rattle.std.proofs.Common.{◌≡◌, ℕ, zero, suc, ◌+◌, ◌*◌, ◌/◌, List, [], ◌∷◌, ◌++◌, length, refl, ap, ◌∙◌, arith}
 use Rattle.std.specs.List.{flat_map}
-use Rattle.bytes.specs.Numbers.{bytes_of}
+use Rattle.octets.specs.Numbers.{bytes_of}
 use Rattle.sha256.specs.Fips.{initial, sums, compressed, after, padding, hash_value, hash}
 
 words_long : (ws : List ℕ) → length (flat_map (bytes_of 4) ws) ≡ 4 * length ws

@@ -3,8 +3,8 @@ use Rattle.std.proofs.Common.{◌≡◌, ℕ, zero, suc, ◌+◌, ◌-◌, ◌*�
 use Rattle.std.proofs.lemmas.List.{append_assoc, length-append, length-drop, take-append-le, drop-append-le, take_all, drop_all, take-replicate}
 use Rattle.std.proofs.lemmas.Slice.{take-put_mid}
 use borrow.Rule.Slice.PartMut.{put_mid}
-use Rattle.bytes.specs.Numbers.{bytes_of}
-use Rattle.bytes.specs.Places.{part}
+use Rattle.octets.specs.Numbers.{bytes_of}
+use Rattle.octets.specs.Places.{part}
 use Rattle.sha256.specs.Fips.{compressed, after, padding, hash_value}
 use Rattle.sha256.specs.Stream.{Held}
 

@@ -1,8 +1,8 @@
 -- One round on: a word more of the schedule, and the working variables turned by it.
 use Rattle.std.proofs.Common.{◌≡◌, ℕ, ◌+◌, ◌-◌, ◌*◌, ◌<◌, ◌≤◌, cond, List, [], ◌∷◌, ◌++◌, length, get_or, take, set, refl, ap, add-one, arith, le-ltb, lt-ltb}
 use Rattle.std.proofs.lemmas.List.{get_or-take, take_more_set}
-use Rattle.bytes.specs.Numbers.{number_of}
-use Rattle.bytes.specs.Places.{part}
+use Rattle.octets.specs.Numbers.{number_of}
+use Rattle.octets.specs.Places.{part}
 use Rattle.sha256.specs.Fips.{constants, mixed, word, schedule, round, rounds}
 use Rattle.sha256.specs.Rounds.{Turned}
 

@@ -1,8 +1,8 @@
 -- SHA-256 by FIPS 180-4: from the bytes of a message to the 32 bytes of its digest. A word is a number of 32 bits.
 use Rattle.std.specs.Prelude.{ℕ, zero, suc, ◌+◌, ◌-◌, ◌*◌, ◌/◌, ◌%◌, ◌^◌, cond, List, [], ◌∷◌, ◌++◌, map, length, replicate, bit_and, bit_or, bit_xor, nat_lt, slice_index}
 use Rattle.std.specs.List.{range_with_len, flat_map}
-use Rattle.bytes.specs.Numbers.{bytes_of, number_of}
-use Rattle.bytes.specs.Places.{part}
+use Rattle.octets.specs.Numbers.{bytes_of, number_of}
+use Rattle.octets.specs.Places.{part}
 
 -- Words are added modulo 2^32.
 abbrev pub add : ℕ → ℕ → ℕ

@@ -4,7 +4,7 @@ ghost use Rattle.sha256.specs.Fips.{compressed, padding, hash_value, hash};
 
 use crate::rounds::{eight_mixed, eight_own};
 use crate::words::added;
-use bytes::numbers::to_bytes4;
+use octets::numbers::to_bytes4;
 
 // The hash value before the first block.
 pub fn initial_value() -> [u32; 8]

@@ -4,7 +4,7 @@ ghost use Rattle.sha256.specs.Fips.{hash, padding};
 ghost use Rattle.sha256.specs.Stream.{Absorbed};
 
 use crate::blocks::{compress, digest_of, initial_value};
-use bytes::numbers::to_bytes8;
+use octets::numbers::to_bytes8;
 
 // The count of bytes is kept modulo 2^64: the place in the block and the length in bits need no more.
 #[derive(Clone, Copy)]

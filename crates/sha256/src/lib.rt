@@ -1,4 +1,6 @@
 // SHA-256: of a message at once, or taken in pieces.
+#![tactic(auto)]
+
 ghost use Rattle.std.specs.Prelude.{◌≡◌};
 ghost use Rattle.sha256.specs.Fips.{hash};
 

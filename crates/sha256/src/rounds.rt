@@ -3,7 +3,7 @@ ghost use Rattle.std.specs.Prelude.{ℕ, ◌+◌, ◌<◌, ◌≤◌, List};
 ghost use Rattle.sha256.specs.Rounds.{Turned};
 
 use crate::words::{constant, mixed_word, turned};
-use bytes::numbers::read_u32;
+use octets::numbers::read_u32;
 
 // A round on a word of the block.
 fn own_round(s: [u32; 8], block: &[u8; 64], w: &mut [u32; 64], t: usize) -> [u32; 8]

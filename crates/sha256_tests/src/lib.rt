@@ -1,4 +1,6 @@
 // The examples of SHA-256, at once and in pieces.
+#![tactic(auto)]
+
 #[cfg(test)]
 mod tests {
     use sha256::hasher::Hasher;

@@ -1,6 +1,6 @@
 use Rattle.std.proofs.Common.{◌≡◌, ℕ, ◌-◌, List, ◌++◌, length, take, drop, ap, ◌∙◌, subst, arith}
 use Rattle.std.proofs.lemmas.List.{take_at}
-use Rattle.bytes.proofs.Parts.{over_front}
+use Rattle.octets.proofs.Parts.{over_front}
 use Rattle.commitments.proofs.put.put_money.Goals as goal
 
 pub returns : goal.returns

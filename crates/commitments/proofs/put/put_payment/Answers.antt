@@ -1,5 +1,5 @@
 use Rattle.std.proofs.Common.{[], ◌∷◌, ◌++◌}
-use Rattle.bytes.specs.Numbers.{bytes_of}
+use Rattle.octets.specs.Numbers.{bytes_of}
 use Rattle.commitments.specs.Bytes.{side_byte}
 use Rattle.commitments.proofs.Fills.{puts_then}
 use Rattle.commitments.proofs.put.put_payment.Goals as goal

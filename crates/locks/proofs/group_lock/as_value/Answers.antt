@@ -1,4 +1,4 @@
-use Rattle.bytes.specs.Places.{over}
+use Rattle.octets.specs.Places.{over}
 use Rattle.locks.proofs.group_lock.as_value.Goals as goal
 
 pub returns : goal.returns

@@ -1,8 +1,8 @@
 use Rattle.std.proofs.Common.{◌≡◌, ◌+◌, ◌++◌, length, sym, refl, ap, ◌∙◌, arith}
 use Rattle.std.proofs.lemmas.List.{append_assoc, length-append}
-use Rattle.bytes.specs.Places.{over}
-use Rattle.bytes.specs.Numbers.{bytes_of}
-use Rattle.bytes.proofs.Parts.{over_next}
+use Rattle.octets.specs.Places.{over}
+use Rattle.octets.specs.Numbers.{bytes_of}
+use Rattle.octets.proofs.Parts.{over_next}
 use Rattle.messages.proofs.writer.write_add.Goals as goal
 
 pub returns : goal.returns

@@ -1,6 +1,6 @@
 use Rattle.std.proofs.Common.{◌≡◌, ◌++◌, length, sym, refl, ap, ◌∙◌, arith}
-use Rattle.bytes.specs.Numbers.{bytes_of}
-use Rattle.bytes.proofs.Parts.{over_next}
+use Rattle.octets.specs.Numbers.{bytes_of}
+use Rattle.octets.proofs.Parts.{over_next}
 use Rattle.messages.proofs.writer.write_reestablish.Goals as goal
 
 pub returns : goal.returns

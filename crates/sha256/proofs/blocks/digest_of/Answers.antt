@@ -1,7 +1,7 @@
 use Rattle.std.proofs.Common.{◌≡◌, ◌+◌, ◌-◌, ◌*◌, [], length, get_or, take, arith, rules}
 use Rattle.std.proofs.lemmas.List.{places, take_more, take_all, flat_map_more}
 use Rattle.std.proofs.lemmas.Slice.{take-put_mid}
-use Rattle.bytes.specs.Numbers.{bytes_of}
+use Rattle.octets.specs.Numbers.{bytes_of}
 use Rattle.sha256.specs.Fips.{hash}
 use Rattle.sha256.proofs.blocks.digest_of.Goals as goal
 

@@ -1,6 +1,6 @@
 use Rattle.std.proofs.Common.{◌≡◌, ◌*◌, length, take}
 use Rattle.std.specs.List.{flat_map}
-use Rattle.bytes.specs.Numbers.{bytes_of}
+use Rattle.octets.specs.Numbers.{bytes_of}
 use Rattle.sha256.proofs.blocks.digest_of.Given as goal
 
 abbrev pub invariant-loop-i : goal.invariant-loop-i

@@ -1,7 +1,7 @@
 use Rattle.std.proofs.Common.{◌≡◌, ◌+◌, ◌*◌, ◌≤◌, length, sym, ap, ◌∙◌, arith}
-use Rattle.bytes.specs.Numbers.{bytes_of}
-use Rattle.bytes.specs.Places.{over}
-use Rattle.bytes.proofs.Parts.{over_none, over_over}
+use Rattle.octets.specs.Numbers.{bytes_of}
+use Rattle.octets.specs.Places.{over}
+use Rattle.octets.proofs.Parts.{over_none, over_over}
 use Rattle.money.specs.Terms.{eight_each}
 use Rattle.money.specs.Eights.{eight_long, eight_more}
 use Rattle.money.specs.Amounts.{row}

@@ -1,5 +1,5 @@
 use Rattle.std.proofs.Common.{◌≡◌, ◌+◌}
-use Rattle.bytes.specs.Places.{over}
+use Rattle.octets.specs.Places.{over}
 use Rattle.money.specs.Terms.{eight_each}
 use Rattle.money.specs.Amounts.{row}
 use Rattle.money.proofs.basket.BasketMoney.write.Given as goal

@@ -2,7 +2,7 @@
 use Rattle.std.proofs.Common.{◌≡◌, ℕ, zero, suc, ◌+◌, ◌*◌, ◌/◌, ◌%◌, ◌^◌, ◌<◌, ◌≤◌, List, [], ◌∷◌, length, sym, refl, ap, ◌∙◌, mod-eq_of_lt, mul_assoc, mul-pos, arith}
 use lib.Arith.{mod-mul, digits_lt, digits_div}
 use native.Mathlib.Nat.{pow-succ', mod-one, mul-add-div_right, mul-add-mod_self_right}
-use Rattle.bytes.specs.Numbers.{bytes_of, number_of, Bytes}
+use Rattle.octets.specs.Numbers.{bytes_of, number_of, Bytes}
 
 -- So many bytes are as many.
 pub bytes_length : (w n : ℕ) → length (bytes_of w n) ≡ w

@@ -1,6 +1,6 @@
 use Rattle.std.proofs.Common.{◌≡◌, ◌+◌, ◌-◌, take, drop, ap, arith}
 use Rattle.std.proofs.lemmas.List.{length-take, length-drop}
-use Rattle.bytes.proofs.values.bytes_at.Goals as goal
+use Rattle.octets.proofs.values.bytes_at.Goals as goal
 
 pub returns : goal.returns
 returns c =

@@ -1,6 +1,6 @@
 use Rattle.std.proofs.Common.{add-zero, arith}
-use Rattle.bytes.proofs.Parts.{part_is}
-use Rattle.bytes.proofs.numbers.read_u32.Goals as goal
+use Rattle.octets.proofs.Parts.{part_is}
+use Rattle.octets.proofs.numbers.read_u32.Goals as goal
 
 pub returns : goal.returns
 returns c =

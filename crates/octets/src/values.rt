@@ -1,6 +1,6 @@
 // Values of 32 bytes: lock values, keys, tweaks, secrets, points and signatures.
 ghost use Rattle.std.specs.Prelude.{◌≡◌, ◌+◌, ◌≤◌, length, Decides};
-ghost use Rattle.bytes.specs.Places.{part};
+ghost use Rattle.octets.specs.Places.{part};
 
 // Whether two rows of bytes are the same.
 fn equal(a: &[u8], b: &[u8]) -> bool

@@ -1,7 +1,7 @@
 use Rattle.std.proofs.Common.{◌≡◌, ◌+◌, ◌-◌, ◌++◌, length, take, drop, ap, ◌∙◌, arith}
 use Rattle.std.proofs.lemmas.List.{drop-drop}
-use Rattle.bytes.specs.Places.{over}
-use Rattle.bytes.proofs.places.put.Goals as goal
+use Rattle.octets.specs.Places.{over}
+use Rattle.octets.proofs.places.put.Goals as goal
 
 pub returns : goal.returns
 unfolding over

@@ -1,7 +1,7 @@
 // Writing at a place of a lent slice, with nothing else altered.
 ghost use Rattle.std.specs.Prelude.{◌≡◌, ◌+◌, ◌≤◌, length};
-ghost use Rattle.bytes.specs.Numbers.{bytes_of};
-ghost use Rattle.bytes.specs.Places.{over};
+ghost use Rattle.octets.specs.Numbers.{bytes_of};
+ghost use Rattle.octets.specs.Places.{over};
 
 use crate::numbers::{to_bytes2, to_bytes4, to_bytes8};
 

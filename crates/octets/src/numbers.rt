@@ -1,7 +1,7 @@
 // Numbers of 2, 4 and 8 bytes, the highest byte first.
 ghost use Rattle.std.specs.Prelude.{◌≡◌, ◌+◌, ◌≤◌, length};
-ghost use Rattle.bytes.specs.Numbers.{bytes_of, number_of, Reversed};
-ghost use Rattle.bytes.specs.Places.{part};
+ghost use Rattle.octets.specs.Numbers.{bytes_of, number_of, Reversed};
+ghost use Rattle.octets.specs.Places.{part};
 
 pub fn to_bytes2(n: u16) -> [u8; 2]
     ensures { result ≡ bytes_of 2 n }

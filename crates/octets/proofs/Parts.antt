@@ -2,9 +2,9 @@
 use Rattle.std.proofs.Common.{◌≡◌, ℕ, zero, suc, ◌+◌, ◌<◌, ◌≤◌, List, [], ◌∷◌, ◌++◌, length, get_or, take, drop, sym, refl, ap, ◌∙◌, ⊎_elim, add-zero, zero-add, arith}
 use Rattle.std.proofs.lemmas.List.{drop_more, take_at, drop_at, take_all, take-take, drop-take, append_assoc, length-append, length-take, length-drop, length-take-le, drop-drop, take-append-drop, get_or-take, get_or-drop, get_or_past}
 use Rattle.std.proofs.lemmas.Bool.{cases_lt}
-use Rattle.bytes.specs.Numbers.{bytes_of, number_of, Bytes}
-use Rattle.bytes.specs.Places.{part, over}
-use Rattle.bytes.proofs.Laws.{bytes_back}
+use Rattle.octets.specs.Numbers.{bytes_of, number_of, Bytes}
+use Rattle.octets.specs.Places.{part, over}
+use Rattle.octets.proofs.Laws.{bytes_back}
 
 -- The so many bytes at a place and a step from it, one by one.
 abbrev pub bytes_at : List ℕ → ℕ → ℕ → ℕ → List ℕ
