@@ -10,6 +10,6 @@ returns c =
     let at = c.args.at in
     let piece = c.args.piece.now in
     let n : at + length piece - at ≡ length piece = omega arith in
-    ap (λ p. take at out ++ (p ++ drop (at + length piece - at) (drop at out))) c.copy-from-slice.ensures.after
+    ap (λ p. take at out ++ (p ++ drop (at + length piece - at) (drop at out))) c.copy_from_slice.ensures.after
     ∙ ap (λ k. take at out ++ (piece ++ drop k (drop at out))) n
     ∙ ap (λ rest. take at out ++ (piece ++ rest)) (drop-drop (length piece) at out)
