@@ -11,7 +11,7 @@ pub trait Test {
 
 // How many characters at the front pass.
 pub fn front<T: Test>(text: &[u8]) -> usize
-    ensures value { result ≡ front passing text.now }
+    ensures value { result ≡ front T.passing text.now }
     ensures within { result ≤ length text.now }
 {
     for (i, c) in text.iter().enumerate() {

@@ -6,21 +6,21 @@ use Rattle.commands.proofs.Names.{read_takes}
 use Rattle.commands.proofs.Refusals.{passed_on}
 use Rattle.commands.proofs.parse.parse_read.Goals as goal
 
-pub returns-in-err-channel : goal.returns-in-err-channel
-returns-in-err-channel c =
+pub returns-in_err-channel : goal.returns-in_err-channel
+returns-in_err-channel c =
     let line = c.args.words.now.rest.now in
-    passed_on (λ (l : List ℕ) (n : ℕ). IsNumber (word 0 l) n) _ line line refl c.from-residual.result c.in-err-channel.field-0.0 c.from-residual.ensures.1 c.in-err-channel.ensures.value
+    passed_on (λ (l : List ℕ) (n : ℕ). IsNumber (word 0 l) n) _ line line refl c.from_residual.result c.in_err-channel.field-0.0 c.from_residual.ensures.1 c.in_err-channel.ensures.value
     (λ command is. let takes = read_takes line command is.0 is.1 in (takes.0, takes.2))
 
-pub returns-in-err-message : goal.returns-in-err-message
-returns-in-err-message c =
+pub returns-in_err-message : goal.returns-in_err-message
+returns-in_err-message c =
     let line = c.args.words.now.rest.now in
-    passed_on (λ (l : List ℕ) (m : Vec ℕ Global). IsMessage (word 0 l) (vec_items m)) _ _ (behind 1 line) c.in-ok-channel.ensures.rest c.from-residual-in-err-message.result c.in-err-message.field-0.0 c.from-residual-in-err-message.ensures.1 c.in-err-message.ensures.value
+    passed_on (λ (l : List ℕ) (m : Vec ℕ Global). IsMessage (word 0 l) (vec_items m)) _ _ (behind 1 line) c.in_ok-channel.ensures.rest c.from_residual-in_err-message.result c.in_err-message.field-0.0 c.from_residual-in_err-message.ensures.1 c.in_err-message.ensures.value
     (λ command is. let takes = read_takes line command is.0 is.1 in (takes.1, takes.3))
 
-pub returns-in-err-end : goal.returns-in-err-end
-returns-in-err-end c =
+pub returns-in_err-end : goal.returns-in_err-end
+returns-in_err-end c =
     let line = c.args.words.now.rest.now in
-    let rest = c.in-ok-message.ensures.rest ∙ ap later_words c.in-ok-channel.ensures.rest in
-    passed_on (λ (l : List ℕ) (_ : Unit). Ended l) _ _ (behind 2 line) rest c.from-residual-in-err-end.result c.in-err-end.field-0.0 c.from-residual-in-err-end.ensures.1 c.in-err-end.ensures
+    let rest = c.in_ok-message.ensures.rest ∙ ap later_words c.in_ok-channel.ensures.rest in
+    passed_on (λ (l : List ℕ) (_ : Unit). Ended l) _ _ (behind 2 line) rest c.from_residual-in_err-end.result c.in_err-end.field-0.0 c.from_residual-in_err-end.ensures.1 c.in_err-end.ensures
     (λ command is. (tt, (read_takes line command is.0 is.1).4))

@@ -11,4 +11,4 @@ returns g c =
     let heading = c.head-heading.result in
     puts_same g.S.Sink.took _ _ (headed_bytes kind heading log other) _
     (whole_bytes kind c.args.number c.args.holder c.args.opening.now log other heading c.head-heading.ensures)
-    c.put-headed.ensures
+    c.put_headed.ensures

@@ -10,4 +10,4 @@ returns g c =
     let took = g.S.Sink.took in
     let own = log_bytes kind Funder c.args.funders.now c.args.others.now in
     let far = log_bytes kind Other c.args.others.now c.args.funders.now in
-    puts_then took _ _ _ (head_bytes kind c.args.heading.now) (own ++ far) c.put-heading.ensures (puts_then took _ _ _ own far c.put-log.ensures c.put-log-2.ensures)
+    puts_then took _ _ _ (head_bytes kind c.args.heading.now) (own ++ far) c.put_heading.ensures (puts_then took _ _ _ own far c.put_log.ensures c.put_log-2.ensures)

@@ -22,7 +22,7 @@ returns g c =
     let first = c.reckon-mine.ensures.pending ∙ ap (pending_count other) whole in
     let second = c.reckon-theirs.ensures.pending ∙ ap (pending_count log) whole_far in
     let count = (λ i. first i + second i) ∙ both_listed log other in
-    let rate = c.rate-after-rate.ensures in
+    let rate = c.rate_after-rate.ensures in
     record {
       number = refl;
       holder = refl;

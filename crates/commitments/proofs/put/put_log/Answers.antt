@@ -19,7 +19,7 @@ loop-update-preserved g c =
     let update = c.update-item.result in
     let next = flat_map (payment_bytes kind.terms) (listed_one side other (mean kind update)) in
     puts_same took _ _ _ (so_far kind side other log (i + 1)) (sym (listed_more kind side other log i update c.loop-update-test.true c.update-item.is))
-    (puts_then took _ _ _ (so_far kind side other log i) next c.loop-update.invariant c.put-update.ensures)
+    (puts_then took _ _ _ (so_far kind side other log i) next c.loop-update.invariant c.put_update.ensures)
 
 pub returns : goal.returns
 returns g c =

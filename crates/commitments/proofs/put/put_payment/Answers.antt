@@ -12,7 +12,7 @@ returns g c =
     let amount = kind.terms.written (kind.asset c.args.amount.now) in
     let value = c.args.value.now in
     let expiry = bytes_of 4 c.args.expiry in
-    puts_then took _ _ _ (side_byte c.args.side ∷ []) (id ++ (amount ++ (value ++ expiry))) c.put-side.ensures
-    (puts_then took _ _ _ id (amount ++ (value ++ expiry)) c.put-u16.ensures
-    (puts_then took _ _ _ amount (value ++ expiry) c.put-money.ensures
-    (puts_then took _ _ _ value expiry c.put.ensures c.put-u32.ensures)))
+    puts_then took _ _ _ (side_byte c.args.side ∷ []) (id ++ (amount ++ (value ++ expiry))) c.put_side.ensures
+    (puts_then took _ _ _ id (amount ++ (value ++ expiry)) c.put_u16.ensures
+    (puts_then took _ _ _ amount (value ++ expiry) c.put_money.ensures
+    (puts_then took _ _ _ value expiry c.put.ensures c.put_u32.ensures)))

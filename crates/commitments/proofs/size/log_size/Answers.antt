@@ -8,13 +8,13 @@ pub loop-update-init : goal.loop-update-init
 loop-update-init g c = (λ side. refl, omega arith)
 
 pub overflow-add-size : goal.overflow-add-size
-overflow-add-size g c = let small = c.update-size-size.ensures.bound in let so_far = c.loop-update.invariant.1 in omega arith
+overflow-add-size g c = let small = c.update_size-size.ensures.bound in let so_far = c.loop-update.invariant.1 in omega arith
 
 pub loop-update-preserved : goal.loop-update-preserved
 loop-update-preserved g c =
-    let small = c.update-size-size.ensures.bound in
+    let small = c.update_size-size.ensures.bound in
     let so_far = c.loop-update.invariant.1 in (
-      λ side. size_more g.M.Money side c.args.other.now c.args.log.now c.loop-update.update-index c.loop-update.size c.update-size-size.result c.update-item.result c.loop-update-test.true c.update-item.is (c.loop-update.invariant.0 side) (c.update-size-size.ensures.value side),
+      λ side. size_more g.M.Money side c.args.other.now c.args.log.now c.loop-update.update-index c.loop-update.size c.update_size-size.result c.update-item.result c.loop-update-test.true c.update-item.is (c.loop-update.invariant.0 side) (c.update_size-size.ensures.value side),
       omega arith,
     )
 

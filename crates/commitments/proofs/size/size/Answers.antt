@@ -16,7 +16,7 @@ returns g c =
     let a = length-append head (own ++ far) in
     let b = length-append own far in
     let d = head_long kind c.args.heading.now kind.terms.width g.met.M.Money.long in
-    let width = c.byte-width-amounts.ensures in
-    let first = c.log-size.ensures.value Funder in
-    let second = c.log-size-2.ensures.value Other in
+    let width = c.byte_width-amounts.ensures in
+    let first = c.log_size.ensures.value Funder in
+    let second = c.log_size-2.ensures.value Other in
     omega arith

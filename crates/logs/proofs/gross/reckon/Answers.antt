@@ -10,8 +10,8 @@ loop-index-init g c = walked_none g.M.Money c.args.share.now c.args.log.now c.ar
 pub loop-index-preserved : goal.loop-index-preserved
 loop-index-preserved g c =
     walked_more g.M.Money c.args.share.now c.args.log.now c.args.count c.args.other.now c.loop-index.index c.loop-index.gross c.step-gross.result
-    c.loop-index.pending c.pending-one-pending.result c.index-log-index.result c.loop-index-test.true (omega arith) c.index-log-index.is c.loop-index.invariant
-    c.step-gross.ensures c.pending-one-pending.ensures.value c.pending-one-pending.ensures.bound
+    c.loop-index.pending c.pending_one-pending.result c.index-log-index.result c.loop-index-test.true (omega arith) c.index-log-index.is c.loop-index.invariant
+    c.step-gross.ensures c.pending_one-pending.ensures.value c.pending_one-pending.ensures.bound
 
 pub returns-then-index-count : goal.returns-then-index-count
 returns-then-index-count g c =

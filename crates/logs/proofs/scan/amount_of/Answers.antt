@@ -10,7 +10,7 @@ loop-update-preserved g c =
     let i = c.loop-update.update-index in
     let id = c.args.id in
     let next = next_update kind log i c.update-item.result c.loop-update-test.true c.update-item.is in
-    ap (λ o. either o (amount_of (means kind (drop (i + 1) log)) id)) c.in-default.ensures ∙ ap (λ l. amount_of l id) (sym next) ∙ c.loop-update.invariant
+    ap (λ o. either o (amount_of (means kind (drop (i + 1) log)) id)) c.in_default.ensures ∙ ap (λ l. amount_of l id) (sym next) ∙ c.loop-update.invariant
 
 pub returns-in-Some : goal.returns-in-Some
 returns-in-Some g c =

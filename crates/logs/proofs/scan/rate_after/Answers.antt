@@ -9,7 +9,7 @@ loop-update-preserved g c =
     let log = c.args.log.now in
     let i = c.loop-update.update-index in
     let next = next_update kind log i c.update-item.result c.loop-update-test.true c.update-item.is in
-    ap (λ r. rate_after r (means kind (drop (i + 1) log))) c.rate-by-rate.ensures ∙ ap (rate_after c.loop-update.rate) (sym next) ∙ c.loop-update.invariant
+    ap (λ r. rate_after r (means kind (drop (i + 1) log))) c.rate_by-rate.ensures ∙ ap (rate_after c.loop-update.rate) (sym next) ∙ c.loop-update.invariant
 
 pub returns : goal.returns
 returns g c =

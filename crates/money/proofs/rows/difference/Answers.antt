@@ -17,15 +17,15 @@ loop-i-preserved c =
     let g = row c.args.b.now in
     let a_long : length c.args.a.now ≡ 4 = omega arith in
     let b_long : length c.args.b.now ≡ 4 = omega arith in
-    filled_more 4 f g (λ k. f k - g k) c.loop-i.amounts c.loop-i.i c.in-ok-amount.amount c.loop-i-test.true c.loop-i.invariant c.in-ok-amount.ensures
+    filled_more 4 f g (λ k. f k - g k) c.loop-i.amounts c.loop-i.i c.in_ok-amount.amount c.loop-i-test.true c.loop-i.invariant c.in_ok-amount.ensures
 
-pub returns-in-err-amount : goal.returns-in-err-amount
-returns-in-err-amount c =
+pub returns-in_err-amount : goal.returns-in_err-amount
+returns-in_err-amount c =
     let f = row c.args.a.now in
     let g = row c.args.b.now in
     let a_long : length c.args.a.now ≡ 4 = omega arith in
     let b_long : length c.args.b.now ≡ 4 = omega arith in
-    rw c.from-residual.ensures (record { value = filled_stop 4 f g (λ k. f k - g k) c.loop-i.amounts c.loop-i.i c.loop-i-test.true c.in-err-amount.ensures; fits = tt })
+    rw c.from_residual.ensures (record { value = filled_stop 4 f g (λ k. f k - g k) c.loop-i.amounts c.loop-i.i c.loop-i-test.true c.in_err-amount.ensures; fits = tt })
 
 pub returns : goal.returns
 returns c =

@@ -13,12 +13,12 @@ loop-i-init c =
 pub loop-i-preserved : goal.loop-i-preserved
 loop-i-preserved c =
     let read = (eights 4).stands c.args.bytes.now in
-    filled_more 4 (λ _. 2100000000000000) read read c.loop-i.amounts c.loop-i.i c.in-ok-amount.amount c.loop-i-test.true c.loop-i.invariant (simp c.read-u64.ensures at c.in-ok-amount.ensures)
+    filled_more 4 (λ _. 2100000000000000) read read c.loop-i.amounts c.loop-i.i c.in_ok-amount.amount c.loop-i-test.true c.loop-i.invariant (simp c.read_u64.ensures at c.in_ok-amount.ensures)
 
-pub returns-in-err-amount : goal.returns-in-err-amount
-returns-in-err-amount c =
+pub returns-in_err-amount : goal.returns-in_err-amount
+returns-in_err-amount c =
     let read = (eights 4).stands c.args.bytes.now in
-    rw c.from-residual.ensures (record { value = filled_stop 4 (λ _. 2100000000000000) read read c.loop-i.amounts c.loop-i.i c.loop-i-test.true (simp c.read-u64.ensures at c.in-err-amount.ensures); fits = tt })
+    rw c.from_residual.ensures (record { value = filled_stop 4 (λ _. 2100000000000000) read read c.loop-i.amounts c.loop-i.i c.loop-i-test.true (simp c.read_u64.ensures at c.in_err-amount.ensures); fits = tt })
 
 pub returns : goal.returns
 returns c =

@@ -8,13 +8,13 @@ use Rattle.money.proofs.rows.within.Goals as goal
 pub loop-i-preserved : goal.loop-i-preserved
 loop-i-preserved c =
     below_more (λ k. get_or c.args.amounts k 0 ≤ 2100000000000000) c.loop-i.i c.loop-i.invariant
-    (one_given (row c.args.amounts c.loop-i.i) 2100000000000000 _ _ (sym c.in-ok-within.ensures)).0
+    (one_given (row c.args.amounts c.loop-i.i) 2100000000000000 _ _ (sym c.in_ok-within.ensures)).0
 
-pub returns-in-err-within : goal.returns-in-err-within
-returns-in-err-within c =
+pub returns-in_err-within : goal.returns-in_err-within
+returns-in_err-within c =
     let f = row c.args.amounts in
-    rw c.from-residual.ensures
-    (record { fits = tt; value = sym (refused 4 (λ _. 2100000000000000) f f c.loop-i.i c.loop-i-test.true (one_refused (f c.loop-i.i) 2100000000000000 (f c.loop-i.i) 0 (sym c.in-err-within.ensures))) })
+    rw c.from_residual.ensures
+    (record { fits = tt; value = sym (refused 4 (λ _. 2100000000000000) f f c.loop-i.i c.loop-i-test.true (one_refused (f c.loop-i.i) 2100000000000000 (f c.loop-i.i) 0 (sym c.in_err-within.ensures))) })
 
 pub returns : goal.returns
 returns c =

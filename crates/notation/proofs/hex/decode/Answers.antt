@@ -6,9 +6,9 @@ use Rattle.notation.proofs.hex.decode.Goals as goal
 pub returns-then-digits-eq1 : goal.returns-then-digits-eq1
 returns-then-digits-eq1 c = sym (odd_unread c.args.digits.now (omega arith))
 
-pub returns-then-decode-into : goal.returns-then-decode-into
-returns-then-decode-into c =
-    let made = c.in-ok-bytes.bytes in
-    let filled = c.decode-into.new.out in
+pub returns-then-decode_into : goal.returns-then-decode_into
+returns-then-decode_into c =
+    let made = c.in_ok-bytes.bytes in
+    let filled = c.decode_into.new.out in
     let long : length filled ≡ made.len = omega arith in
-    ap Some (with_items_is made filled long) ∙ sym (simp c.if-decode-into.true at c.decode-into.ensures)
+    ap Some (with_items_is made filled long) ∙ sym (simp c.if-decode_into.true at c.decode_into.ensures)

@@ -9,10 +9,10 @@ pub loop-byte-preserved : goal.loop-byte-preserved
 loop-byte-preserved c =
     let bs = c.args.bytes.now in
     let i = c.loop-byte.byte-index in
-    let first = c.push.ensures.ascii c.digit-of.ensures.ascii ∙ ap (λ d. d ∷ []) c.digit-of.ensures.value in
-    let second = c.push-in-loop-byte.ensures.ascii c.digit-of-in-loop-byte.ensures.ascii ∙ ap (λ d. d ∷ []) c.digit-of-in-loop-byte.ensures.value in
-    let after_first = c.in-ok-push.ensures.bytes ∙ (λ k. c.loop-byte.invariant k ++ first k) in
-    c.in-ok-push-2.ensures.bytes ∙ (λ k. after_first k ++ second k) ∙ append_assoc (hex_of (take i bs)) (digit_of (get_or bs i 0 / 16) ∷ []) (digit_of (get_or bs i 0 % 16) ∷ []) ∙ sym (hex_more bs i c.loop-byte-test.true)
+    let first = c.push.ensures.ascii c.digit_of.ensures.ascii ∙ ap (λ d. d ∷ []) c.digit_of.ensures.value in
+    let second = c.push-in-loop-byte.ensures.ascii c.digit_of-in-loop-byte.ensures.ascii ∙ ap (λ d. d ∷ []) c.digit_of-in-loop-byte.ensures.value in
+    let after_first = c.in_ok-push.ensures.bytes ∙ (λ k. c.loop-byte.invariant k ++ first k) in
+    c.in_ok-push-2.ensures.bytes ∙ (λ k. after_first k ++ second k) ∙ append_assoc (hex_of (take i bs)) (digit_of (get_or bs i 0 / 16) ∷ []) (digit_of (get_or bs i 0 % 16) ∷ []) ∙ sym (hex_more bs i c.loop-byte-test.true)
 
 pub returns : goal.returns
 returns c = c.loop-byte.invariant ∙ ap hex_of (take_all c.loop-byte.byte-index c.args.bytes.now c.loop-byte-test.false)

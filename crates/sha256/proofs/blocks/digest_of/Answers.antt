@@ -8,7 +8,7 @@ use Rattle.sha256.proofs.blocks.digest_of.Goals as goal
 pub loop-i-preserved : goal.loop-i-preserved
 loop-i-preserved c =
     let i = c.loop-i.i in
-    let four = c.copy-from-slice.new.self in
+    let four = c.copy_from_slice.new.self in
     let long : length four ≡ 4 = omega arith in
     let front = take-put_mid (4 * i) (4 * i + 4 - 4 * i) c.loop-i.out four (4 * (i + 1)) (omega arith) (omega arith) in
     let words = take_more c.args.value i 0 (omega arith) in

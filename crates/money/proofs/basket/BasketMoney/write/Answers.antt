@@ -17,7 +17,7 @@ loop-i-preserved c =
     let i = c.loop-i.i in
     let f = row c.args.self.now.amounts in
     let room : at ≤ length out = omega arith in
-    c.put-u64.ensures
+    c.put_u64.ensures
     ∙ ap (λ t. over t (at + 8 * i) (bytes_of 8 (f i))) c.loop-i.invariant
     ∙ over_over out (eight_each i f) (bytes_of 8 (f i)) at (at + 8 * i) room (ap (λ n. at + n) (eight_long i f))
     ∙ ap (over out at) (sym (eight_more i f))

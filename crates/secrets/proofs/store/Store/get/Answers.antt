@@ -10,7 +10,7 @@ loop-bits-preserved c =
     let places = c.args.self.now.places in
     let inside : c.loop-bits.bits < length places = omega arith in
     let many : length places ≡ 49 = omega arith in
-    (asked_more places c.args.index c.loop-bits.bits inside (sym c.in-default.ensures) c.loop-bits.invariant.0, λ some. many)
+    (asked_more places c.args.index c.loop-bits.bits inside (sym c.in_default.ensures) c.loop-bits.invariant.0, λ some. many)
 
 pub returns-in-Some : goal.returns-in-Some
 returns-in-Some c =

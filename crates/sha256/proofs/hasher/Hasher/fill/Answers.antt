@@ -7,7 +7,7 @@ pub returns-then-filled-count-eq64 : goal.returns-then-filled-count-eq64
 returns-then-filled-count-eq64 c =
     let h = c.args.self.now in
     let count = c.min-count.result in
-    let piece : c.copy-from-slice.new.self ≡ take count c.args.bytes.now = search rules in
+    let piece : c.copy_from_slice.new.self ≡ take count c.args.bytes.now = search rules in
     let long = length-take-le count c.args.bytes.now (omega arith) in
     let k = h.total % 64 + count - h.total % 64 in
     record {
@@ -21,7 +21,7 @@ pub returns-else-filled-count-eq64 : goal.returns-else-filled-count-eq64
 returns-else-filled-count-eq64 c =
     let h = c.args.self.now in
     let count = c.min-count.result in
-    let piece : c.copy-from-slice.new.self ≡ take count c.args.bytes.now = search rules in
+    let piece : c.copy_from_slice.new.self ≡ take count c.args.bytes.now = search rules in
     let long = length-take-le count c.args.bytes.now (omega arith) in
     let k = h.total % 64 + count - h.total % 64 in
     record {
