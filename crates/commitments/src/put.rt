@@ -10,10 +10,10 @@ ghost use Rattle.commitments.specs.Sinks.{Puts};
 
 use crate::side::Side;
 use crate::sink::Sink;
-use octets::numbers::{to_bytes2, to_bytes4, to_bytes8};
 use logs::scan::is_resolved;
 use logs::update::Update;
 use money::kind::Money;
+use octets::numbers::{to_bytes2, to_bytes4, to_bytes8};
 
 // The side as one byte.
 pub fn put_side<S: Sink>(sink: &mut S, side: Side)

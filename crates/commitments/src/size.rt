@@ -12,6 +12,14 @@ use logs::scan::is_resolved;
 use logs::update::Update;
 use money::kind::Money;
 
+// The bytes of a lock value.
+fn value_size(value: &[u8; 32]) -> usize
+    ensures value { result ≡ length value.now }
+    ensures bound { result ≡ 32 }
+{
+    value.len()
+}
+
 // The bytes of an update: those of a payment where it is a pending add.
 fn update_size<M: Money>(update: &Update<M>, other: &[Update<M>]) -> usize
     ensures value { (side : Side) → result ≡ length (flat_map (payment_bytes M.Money.terms) (listed_one side (means M.Money other.now) (mean M.Money update.now))) }
@@ -22,7 +30,7 @@ fn update_size<M: Money>(update: &Update<M>, other: &[Update<M>]) -> usize
             if is_resolved(other, *id) {
                 0
             } else {
-                1 + 2 + M::byte_width() + value.len() + 4
+                1 + 2 + M::byte_width() + value_size(value) + 4
             }
         }
         Update::Fulfil { .. } => 0,

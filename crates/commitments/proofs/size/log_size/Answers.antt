@@ -7,8 +7,8 @@ use Rattle.commitments.proofs.size.log_size.Goals as goal
 pub loop-update-init : goal.loop-update-init
 loop-update-init g c = (λ side. refl, omega arith)
 
-pub overflow-add-size : goal.overflow-add-size
-overflow-add-size g c = let small = c.update_size-size.ensures.bound in let so_far = c.loop-update.invariant.1 in omega arith
+pub overflow_add-size : goal.overflow_add-size
+overflow_add-size g c = let small = c.update_size-size.ensures.bound in let so_far = c.loop-update.invariant.1 in omega arith
 
 pub loop-update-preserved : goal.loop-update-preserved
 loop-update-preserved g c =

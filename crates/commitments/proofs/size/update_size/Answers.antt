@@ -29,7 +29,7 @@ returns-else-is_resolved g c =
     record {
       value = λ side.
           let wide = g.met.M.Money.long add.amount in
-          let value : length add.value ≡ 32 = omega arith in
+          let value = c.value_size.ensures.value in
           let long = payment_long kind.terms (payment side add.id (kind.asset add.amount) add.value add.expiry) in
           let is = ap length (
           ap (λ u. bytes_of_all kind.terms side other (listed_one side other (mean kind u))) add.is
