@@ -1,18 +1,17 @@
 -- How long the bytes of a commitment are.
-use Rattle.std.proofs.Common.{◌≡◌, ℕ, ◌+◌, ◌*◌, ◌<◌, List, [], ◌∷◌, ◌++◌, length, get_or, sym, ap, ◌∙◌, arith}
+use Rattle.std.proofs.Common.{◌≡◌, ℕ, ◌+◌, ◌*◌, ◌<◌, List, ◌++◌, length, get_or, sym, ap, ◌∙◌, arith}
 use Rattle.std.proofs.lemmas.List.{length-append}
 use Rattle.std.specs.List.{flat_map}
 use Rattle.octets.specs.Numbers.{bytes_of}
-use Rattle.octets.proofs.Laws.{bytes_length}
 use Rattle.money.specs.Terms.{Terms}
 use Rattle.money.specs.declared.kind.Money.{Ghosts}
-use Rattle.logs.specs.Logs.{Log, mean, means}
+use Rattle.logs.specs.Logs.{mean, means}
 use Rattle.logs.specs.declared.update.Update.{Update}
 use Rattle.commitments.specs.declared.heading.Heading.{Heading}
 use Rattle.commitments.specs.declared.side.Side.{Side}
-use Rattle.commitments.specs.Bytes.{side_byte, payment_bytes}
+use Rattle.commitments.specs.Bytes.{payment_bytes}
 use Rattle.commitments.specs.Commitments.{Payment, listed_one}
-use Rattle.commitments.specs.Headings.{head_bytes, log_bytes}
+use Rattle.commitments.specs.Headings.{head_bytes}
 use Rattle.commitments.proofs.Listing.{so_far, listed_more}
 
 pub payment_long : (terms : Terms) (p : Payment) → length (payment_bytes terms p) ≡ 3 + length (terms.written p.amount) + length p.value + 4

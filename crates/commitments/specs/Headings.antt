@@ -3,7 +3,7 @@ use Rattle.std.specs.Prelude.{◌≡◌, ℕ, ◌≤◌, List, [], ◌∷◌, �
 use Rattle.octets.specs.Numbers.{bytes_of}
 use Rattle.std.specs.List.{flat_map}
 use Rattle.money.specs.declared.kind.Money.{Ghosts}
-use Rattle.logs.specs.Logs.{Log, means}
+use Rattle.logs.specs.Logs.{means}
 use Rattle.logs.specs.declared.update.Update.{Update}
 use Rattle.commitments.specs.declared.heading.Heading.{Heading}
 use Rattle.commitments.specs.declared.side.Side.{Side}

@@ -1,5 +1,5 @@
 -- Putting bytes into a sink, one piece behind another.
-use Rattle.std.specs.Prelude.{◌≡◌, ℕ, ◌+◌, ◌≤◌, List, ◌++◌, length}
+use Rattle.std.specs.Prelude.{◌≡◌, ℕ, ◌+◌, List, ◌++◌, length}
 use Rattle.octets.specs.Places.{over}
 
 -- The row with a piece over it from a place on, and the place behind it.

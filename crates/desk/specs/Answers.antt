@@ -1,5 +1,5 @@
 -- What the desk answers to each question.
-use Rattle.std.specs.Prelude.{◌≡◌, ℕ, Bool, true, false, cond, List, ◌++◌, length, Some, None, vec_items, string_bytes, codes, decimal, Option, ◌==◌}
+use Rattle.std.specs.Prelude.{◌≡◌, ℕ, Bool, true, cond, List, ◌++◌, length, Some, None, vec_items, string_bytes, codes, decimal, Option, ◌==◌}
 use Rattle.commands.specs.declared.command.Command.{Command}
 use Rattle.commands.specs.declared.command.Command.TheVariants.{Sha, Read, Opens, CarryKey, CarryValue}
 use Rattle.commands.specs.declared.command.LockName.{LockName}

@@ -1,5 +1,4 @@
 -- The lock that a book names.
-use Rattle.std.specs.Prelude.{ℕ, List}
 use Rattle.commands.specs.declared.command.LockName.{LockName}
 use Rattle.commands.specs.declared.command.LockName.TheVariants.{Hash, Group}
 use Rattle.locks.specs.Group.{Allowed, group_lock}

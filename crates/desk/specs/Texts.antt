@@ -1,8 +1,7 @@
 -- What the desk says, letter by letter.
-use Rattle.std.specs.Prelude.{ℕ, Bool, cond, List, ◌++◌, Some, None, codes, decimal, Option}
+use Rattle.std.specs.Prelude.{ℕ, List, ◌++◌, Some, None, codes, decimal, Option}
 use Rattle.notation.specs.Hex.{hex_of}
 use Rattle.messages.specs.Contents.{Content, add, fulfil, fail, signed, revoked, fee, reestablish}
-use Rattle.messages.specs.declared.fault.Refusal.{Refusal}
 use Rattle.money.specs.Amounts.{Amount}
 
 -- An amount that its money takes, or the word for one that passes the limit.

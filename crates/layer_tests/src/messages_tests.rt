@@ -1,11 +1,11 @@
 // Messages of every type at every length, and their bytes.
-use octets::places::put_u16;
 use messages::fault::MessageFault;
 use messages::message::Message;
 use messages::reader::read;
 use messages::writer::{write_add, write_fulfil};
 use money::basket::Basket;
 use money::satoshi::Satoshi;
+use octets::places::put_u16;
 use std::process::Abort;
 use std::test::Fail;
 

@@ -1,7 +1,6 @@
 -- Worked figures of the group with modulus 23, order 11 and base 2.
 use Rattle.std.specs.Prelude.{◌≡◌}
 use Rattle.locks.specs.Group.{Allowed, as_value, group_lock}
-use Rattle.locks.specs.Meaning.{Meaning}
 
 -- Key 3 has the value 8, and the tweak 4 carries them to 7 and 13.
 pub record Worked : Type 0 where

@@ -3,7 +3,7 @@ use Rattle.std.proofs.Common.{◌≡◌, ℕ, ◌+◌, ◌<◌, ◌≤◌, List,
 use Rattle.std.proofs.lemmas.List.{drop_more, drop_all}
 use Rattle.money.specs.declared.kind.Money.{Ghosts}
 use Rattle.logs.specs.declared.update.Update.{Update}
-use Rattle.logs.specs.Logs.{Log, mean, means}
+use Rattle.logs.specs.Logs.{mean, means}
 
 module _ {M : Type 0} (kind : Ghosts M) (log : List (Update M)) (i : ℕ) where
   -- The next update, and those behind it.

@@ -1,12 +1,11 @@
 -- Where the money refuses nothing on the way, the walk is the literal sum.
-use Rattle.std.proofs.Common.{◌≡◌, ℕ, suc, ◌+◌, ◌-◌, ◌<◌, ◌≤◌, Bool, true, false, cond, ◌||◌, eqb, List, [], ◌∷◌, Some, None, Option, unwrap_or, sym, refl, ap, ◌∙◌, arith}
-use Rattle.std.proofs.lemmas.Bool.{cond-true, eqb-true, eqb-false, ne_eqb, eq-eqb}
-use Rattle.money.specs.Amounts.{Amount, contains, sum_of, difference_of}
+use Rattle.std.proofs.Common.{◌≡◌, ℕ, suc, ◌+◌, ◌-◌, ◌<◌, Bool, true, false, cond, ◌||◌, eqb, [], ◌∷◌, Some, None, Option, unwrap_or, sym, refl, ap, ◌∙◌, arith}
+use Rattle.std.proofs.lemmas.Bool.{eqb-true, eqb-false, ne_eqb, eq-eqb}
+use Rattle.money.specs.Amounts.{Amount, contains}
 use Rattle.money.specs.Terms.{Terms}
 use Rattle.money.specs.Contains.{contains_decides}
-use Rattle.logs.specs.declared.update.Update.{Update}
 use Rattle.logs.specs.declared.update.Update.TheVariants.{Add, Fulfil, Fail, Fee}
-use Rattle.logs.specs.Gross.{lessened, raised, credited, moved, walked, adds_total, Numbered, FulfilledOnce, Goes, NothingRefused, LiteralGross}
+use Rattle.logs.specs.Gross.{lessened, raised, credited, moved, walked, adds_total, Numbered, FulfilledOnce, NothingRefused, LiteralGross}
 use Rattle.logs.specs.Logs.{Log, fulfilled, failed, either, amount_of}
 
 -- What an amount holds of an asset, where there is one.

@@ -5,7 +5,7 @@ use Rattle.std.proofs.lemmas.List.Sums.{fold_push, sum_by_push}
 use Rattle.money.specs.declared.kind.Money.{Ghosts}
 use Rattle.logs.specs.declared.update.Update.{Update}
 use Rattle.logs.specs.Gross.{moved, walked}
-use Rattle.logs.specs.Logs.{Log, mean, means, pending_one, pending_count}
+use Rattle.logs.specs.Logs.{mean, means, pending_one, pending_count}
 
 -- The front of a log with one update more.
 module _ {M : Type 0} (kind : Ghosts M) (log : List (Update M)) where

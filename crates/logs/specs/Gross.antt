@@ -1,5 +1,5 @@
 -- What a side owns before the commitment fee: the walk over its log, and the sum that it stands for.
-use Rattle.std.specs.Prelude.{◌≡◌, ℕ, zero, suc, ◌+◌, ◌-◌, ◌<◌, ◌≤◌, Bool, true, false, cond, ◌||◌, List, [], ◌∷◌, Some, None, fold, Option}
+use Rattle.std.specs.Prelude.{◌≡◌, ℕ, suc, ◌+◌, ◌<◌, Bool, true, false, cond, [], ◌∷◌, Some, None, fold, Option}
 use Rattle.std.specs.Option.{unwrap_or}
 use Rattle.money.specs.Amounts.{Amount, contains, sum_of, difference_of}
 use Rattle.money.specs.Terms.{Terms}

@@ -1,5 +1,5 @@
 -- Logs of updates, with amounts as whole numbers.
-use Rattle.std.specs.Prelude.{ℕ, zero, suc, ◌+◌, Bool, true, false, cond, not, ◌&&◌, ◌||◌, List, [], ◌∷◌, map, Some, None, fold, sum_by, Option, ◌==◌}
+use Rattle.std.specs.Prelude.{ℕ, Bool, false, cond, ◌||◌, List, [], ◌∷◌, map, Some, None, fold, sum_by, Option, ◌==◌}
 use Rattle.money.specs.Amounts.{Amount}
 use Rattle.money.specs.declared.kind.Money.{Ghosts}
 use Rattle.logs.specs.declared.update.Update.{Update}

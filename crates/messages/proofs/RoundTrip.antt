@@ -1,13 +1,13 @@
 -- Writing and reading undo each other.
-use Rattle.std.proofs.Common.{◌≡◌, ℕ, zero, suc, ◌+◌, ◌^◌, ◌<◌, ◌≤◌, Bool, true, false, cond, eqb, List, [], ◌∷◌, ◌++◌, length, take, drop, Some, None, Option, sym, refl, ap, ◌∙◌, arith}
-use Rattle.std.proofs.lemmas.List.{take_at, drop_at, take_all, drop-drop, length-append}
+use Rattle.std.proofs.Common.{◌≡◌, ℕ, zero, suc, ◌+◌, ◌≤◌, Bool, true, false, cond, eqb, List, [], ◌∷◌, ◌++◌, length, take, drop, Some, None, Option, sym, refl, ap, ◌∙◌, arith}
+use Rattle.std.proofs.lemmas.List.{take_at, drop_at, drop-drop, length-append}
 use Rattle.std.proofs.lemmas.Bool.{eq-eqb, eqb-true, cond-true}
 use Rattle.octets.specs.Numbers.{bytes_of, number_of, Bytes}
 use Rattle.octets.specs.Places.{part}
 use Rattle.octets.proofs.Laws.{number_back, bytes_back}
 use Rattle.octets.proofs.Parts.{part_whole, part_join, part_back}
 use Rattle.messages.specs.Contents.{Content, add, fulfil, fail, signed, revoked, fee, reestablish, type_of, fields_of, message_bytes, Fits}
-use Rattle.messages.specs.Reading.{number_at, whole, read_add, read_fields, read_message}
+use Rattle.messages.specs.Reading.{number_at, whole, read_fields, read_message}
 
 -- Fields of the right length are taken as they are.
 taken : (long : ℕ) (fields : List ℕ) (read m : Content) → length fields ≡ long → read ≡ m → whole long fields read ≡ Some m

@@ -1,5 +1,4 @@
 -- Refusals: a number, the layer that gives it and the channel that it is about.
-use Rattle.std.specs.Prelude.{ℕ}
 use Rattle.messages.specs.declared.fault.Refusal.{Refusal}
 use Rattle.messages.specs.declared.fault.MessageFault.{MessageFault}
 use Rattle.messages.specs.declared.fault.MessageFault.TheVariants.{Malformed}

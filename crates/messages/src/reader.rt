@@ -9,9 +9,9 @@ ghost use Rattle.octets.specs.Places.{part};
 
 use crate::fault::MessageFault;
 use crate::message::Message;
+use money::kind::Money;
 use octets::numbers::{read_u16, read_u32, read_u64};
 use octets::values::value_at;
-use money::kind::Money;
 
 const ADD: u16 = 128;
 

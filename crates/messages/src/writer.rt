@@ -3,8 +3,8 @@ ghost use Rattle.std.specs.Prelude.{◌≡◌, ◌+◌, ◌≤◌, length};
 ghost use Rattle.octets.specs.Places.{over};
 ghost use Rattle.messages.specs.Contents.{message_bytes, add, fulfil, fail, signed, revoked, fee, reestablish};
 
-use octets::places::{put, put_u16, put_u32, put_u64};
 use money::kind::Money;
+use octets::places::{put, put_u16, put_u32, put_u64};
 
 pub const FULFIL_LENGTH: usize = 36;
 

@@ -1,5 +1,5 @@
 -- Reading a number back gives it, and writing what was read gives its bytes, at every width.
-use Rattle.std.proofs.Common.{◌≡◌, ℕ, zero, suc, ◌+◌, ◌*◌, ◌/◌, ◌%◌, ◌^◌, ◌<◌, ◌≤◌, List, [], ◌∷◌, length, sym, refl, ap, ◌∙◌, mod-eq_of_lt, mul_assoc, mul-pos, arith}
+use Rattle.std.proofs.Common.{◌≡◌, ℕ, zero, suc, ◌+◌, ◌*◌, ◌/◌, ◌%◌, ◌^◌, ◌<◌, List, [], ◌∷◌, length, sym, refl, ap, ◌∙◌, mod-eq_of_lt, mul_assoc, mul-pos, arith}
 use lib.Arith.{mod-mul, digits_lt, digits_div}
 use native.Mathlib.Nat.{pow-succ', mod-one, mul-add-div_right, mul-add-mod_self_right}
 use Rattle.octets.specs.Numbers.{bytes_of, number_of, Bytes}

@@ -1,8 +1,7 @@
 -- The store's places: fitting and answering, place by place.
-use Rattle.std.proofs.Common.{◌≡◌, ℕ, zero, suc, ◌+◌, ◌<◌, ◌≤◌, Bool, true, false, cond, ◌&&◌, List, [], ◌∷◌, length, get_or, drop, Some, None, Option, sym, refl, ap, ◌∙◌, ⊎_elim, add-one, arith}
+use Rattle.std.proofs.Common.{◌≡◌, ℕ, zero, suc, ◌+◌, ◌<◌, ◌≤◌, true, false, ◌&&◌, List, length, get_or, drop, Some, None, sym, refl, ap, ◌∙◌, ⊎_elim, add-one, arith}
 use Rattle.std.proofs.lemmas.List.{drop_more, drop_all}
 use Rattle.std.proofs.lemmas.Bool.{and_left, and_right, cases_lt}
-use Rattle.secrets.specs.declared.known.Known.{Known}
 use Rattle.secrets.specs.Store.{Places, agrees, agrees_below, answered, first_of, older_from, older}
 
 module _ (secret : List ℕ) (b : ℕ) (places : Places) where

@@ -1,5 +1,5 @@
 -- Secrets derived from a value, and the secrets and points of commitments.
-use Rattle.std.specs.Prelude.{ℕ, zero, suc, ◌-◌, ◌/◌, ◌%◌, ◌^◌, Bool, cond, List, set, ◌==◌, bit_xor, slice_index, slice_set}
+use Rattle.std.specs.Prelude.{ℕ, zero, suc, ◌-◌, ◌/◌, ◌%◌, ◌^◌, Bool, cond, List, ◌==◌, bit_xor, slice_index, slice_set}
 use Rattle.sha256.specs.Fips.{hash}
 
 -- Bit b of a number is set.

@@ -1,5 +1,4 @@
-use Rattle.std.proofs.Common.{◌≡◌, refl, ap, ◌∙◌, add-one, arith}
-use Rattle.sha256.specs.Fips.{hash}
+use Rattle.std.proofs.Common.{◌≡◌, refl, add-one, arith}
 use Rattle.bench_sha256.specs.Chain.{chain}
 use Rattle.bench_sha256.proofs.chained.Goals as goal
 

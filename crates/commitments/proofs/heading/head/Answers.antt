@@ -1,9 +1,8 @@
-use Rattle.std.proofs.Common.{◌≡◌, ◌+◌, ◌-◌, length, take, sym, refl, ap, ◌∙◌, arith}
+use Rattle.std.proofs.Common.{◌≡◌, ◌+◌, ◌-◌, length, take, refl, ap, ◌∙◌, arith}
 use Rattle.std.proofs.lemmas.List.{take_all}
 use Rattle.logs.specs.Gross.{walked}
-use Rattle.logs.specs.Logs.{means, rate_after, pending_count}
-use Rattle.commitments.specs.declared.side.Side.TheVariants.{Funder, Other}
-use Rattle.commitments.specs.Commitments.{fee_of, listed}
+use Rattle.logs.specs.Logs.{means, pending_count}
+use Rattle.commitments.specs.Commitments.{fee_of}
 use Rattle.commitments.proofs.Listing.{both_listed}
 use Rattle.commitments.proofs.heading.head.Goals as goal
 

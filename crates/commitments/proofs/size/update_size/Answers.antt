@@ -1,4 +1,4 @@
-use Rattle.std.proofs.Common.{◌≡◌, length, sym, ap, ◌∙◌, arith}
+use Rattle.std.proofs.Common.{length, sym, ap, ◌∙◌, arith}
 use Rattle.logs.specs.Logs.{mean, means}
 use Rattle.commitments.specs.Commitments.{listed_one}
 use Rattle.commitments.specs.Payments.{payment}

@@ -1,4 +1,4 @@
-use Rattle.std.proofs.Common.{◌<◌, ◌≤◌, length, ap, ◌∙◌, inl, inr, arith}
+use Rattle.std.proofs.Common.{ap, ◌∙◌, inl, inr, arith}
 use Rattle.logs.specs.Gross.{walked}
 use Rattle.logs.specs.Logs.{means, pending_count}
 use Rattle.logs.proofs.Walks.{walked_none, walked_more, front_ends}

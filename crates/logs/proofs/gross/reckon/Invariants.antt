@@ -1,4 +1,3 @@
-use Rattle.std.proofs.Common.{◌≤◌}
 use Rattle.logs.proofs.Walks.{WalkedTo}
 use Rattle.logs.proofs.gross.reckon.Given as goal
 

@@ -1,4 +1,4 @@
-use Rattle.std.proofs.Common.{◌≡◌, ◌++◌, length, sym, refl, ap, ◌∙◌, arith}
+use Rattle.std.proofs.Common.{refl}
 use Rattle.octets.specs.Numbers.{bytes_of}
 use Rattle.octets.proofs.Parts.{over_next}
 use Rattle.messages.proofs.writer.write_fee.Goals as goal

@@ -1,4 +1,4 @@
-use Rattle.std.proofs.Common.{◌≡◌, ◌++◌, length, sym, refl, ap, ◌∙◌, arith}
+use Rattle.std.proofs.Common.{◌≡◌, ◌++◌, length, refl, arith}
 use Rattle.octets.specs.Numbers.{bytes_of}
 use Rattle.octets.proofs.Parts.{over_next}
 use Rattle.std.proofs.lemmas.List.{length-append}

@@ -1,4 +1,4 @@
-use Rattle.std.proofs.Common.{◌≡◌, ◌+◌, ◌≤◌, length, take, drop, sym, ap, ◌∙◌, arith}
+use Rattle.std.proofs.Common.{◌+◌, ◌≤◌, length, sym, ap, ◌∙◌, arith}
 use Rattle.std.proofs.lemmas.List.{take_all, drop_all, take_rest, length-take, length-drop}
 use Rattle.notation.specs.Lines.{front, is_in_line}
 use Rattle.notation.proofs.Fronts.{part_before, part_behind}

@@ -1,4 +1,4 @@
-use Rattle.std.proofs.Common.{◌≡◌, ◌-◌, length, take, drop, sym, ap, ◌∙◌, arith}
+use Rattle.std.proofs.Common.{◌≡◌, ◌-◌, length, take, drop, ap, ◌∙◌, arith}
 use Rattle.notation.specs.Lines.{front, is_blank, is_letter}
 use Rattle.notation.proofs.Fronts.{part_before, part_behind, has_letter, no_letter}
 use Rattle.notation.proofs.lines.split_word.Goals as goal

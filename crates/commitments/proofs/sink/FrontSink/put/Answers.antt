@@ -1,4 +1,4 @@
-use Rattle.std.proofs.Common.{◌+◌, ◌≤◌, ◌++◌, length, arith}
+use Rattle.std.proofs.Common.{arith}
 use Rattle.std.proofs.lemmas.List.{length-append}
 use Rattle.commitments.proofs.Fills.{filled_more}
 use Rattle.commitments.proofs.sink.FrontSink.put.Goals as goal

@@ -1,4 +1,4 @@
-use Rattle.std.proofs.Common.{◌≡◌, ◌+◌, ◌*◌, ◌≤◌, length, sym, ap, ◌∙◌, arith}
+use Rattle.std.proofs.Common.{◌+◌, ◌*◌, ◌≤◌, length, sym, ap, ◌∙◌, arith}
 use Rattle.octets.specs.Numbers.{bytes_of}
 use Rattle.octets.specs.Places.{over}
 use Rattle.octets.proofs.Parts.{over_none, over_over}

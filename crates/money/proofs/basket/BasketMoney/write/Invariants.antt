@@ -1,4 +1,4 @@
-use Rattle.std.proofs.Common.{◌≡◌, ◌+◌}
+use Rattle.std.proofs.Common.{◌≡◌}
 use Rattle.octets.specs.Places.{over}
 use Rattle.money.specs.Terms.{eight_each}
 use Rattle.money.specs.Amounts.{row}

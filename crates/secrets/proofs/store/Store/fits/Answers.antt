@@ -1,5 +1,5 @@
 use Rattle.std.proofs.Common.{◌≡◌, sym, ap, ◌∙◌, arith}
-use Rattle.secrets.specs.Store.{agrees_below, fits, place_of}
+use Rattle.secrets.specs.Store.{agrees_below, fits}
 use Rattle.secrets.proofs.Places.{agrees_more, agrees_not}
 use Rattle.secrets.proofs.store.Store.fits.Goals as goal
 

@@ -1,4 +1,4 @@
-use Rattle.std.proofs.Common.{◌≡◌, ◌≤◌, true}
+use Rattle.std.proofs.Common.{◌≡◌, true}
 use Rattle.secrets.specs.Store.{agrees_below}
 use Rattle.secrets.proofs.store.Store.fits.Given as goal
 

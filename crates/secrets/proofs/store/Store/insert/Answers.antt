@@ -1,4 +1,4 @@
-use Rattle.std.proofs.Common.{◌≡◌, set, Some, sym, ap, ◌∙◌, rules}
+use Rattle.std.proofs.Common.{set, Some, ap, rules}
 use Rattle.secrets.specs.Store.{kept}
 use Rattle.secrets.proofs.store.Store.insert.Goals as goal
 

@@ -1,4 +1,4 @@
-use Rattle.std.proofs.Common.{◌≡◌, ◌+◌, ◌-◌, ◌%◌, length, take, arith, rules}
+use Rattle.std.proofs.Common.{◌≡◌, ◌+◌, ◌-◌, ◌%◌, take, arith, rules}
 use Rattle.std.proofs.lemmas.List.{places, length-take-le}
 use Rattle.sha256.proofs.Streams.{held_part, held_whole}
 use Rattle.sha256.proofs.hasher.Hasher.fill.Goals as goal
