@@ -2,7 +2,7 @@
 use Rattle.std.proofs.Common.{◌≡◌, ℕ, zero, suc, ◌-◌, ◌≤◌, min, eqb, Some, None, Option, sym, ◌∙◌, subst, arith}
 use Rattle.std.proofs.lemmas.Bool.{ne_eqb, cond-false}
 use Rattle.money.specs.Amounts.{Amount, units_from, difference_of}
-use Rattle.money.specs.Contains.{given}
+use Rattle.money.proofs.Contains.{given}
 
 units_within : (units : ℕ) (gross : Amount) (k : ℕ) → units_from units gross k ≤ gross k
 units_within units gross zero = omega arith

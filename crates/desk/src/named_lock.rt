@@ -4,8 +4,7 @@ ghost use Rattle.locks.specs.Meaning.{Meaning, hash_lock};
 ghost use Rattle.locks.specs.Group.{group_lock};
 ghost use Rattle.desk.specs.NamedLocks.{meaning_of, Makeable};
 ghost use Rattle.desk.specs.Locked.{lock_meaning};
-ghost use Rattle.std.proofs.Common.{arith};
-ghost use Rattle.locks.specs.Turns;
+ghost use Rattle.locks.specs.Turns.{group_carries};
 ghost use Rattle.desk.specs.declared.named_lock.NamedLock.TheVariants.{Hash, Group};
 
 use commands::command::LockName;
@@ -43,11 +42,7 @@ impl Lock for NamedLock {
 
     ghost carrying = { elim [
       | Hash lock ↦ λ key tweak _ _. refl
-      | Group lock ↦
-          λ key tweak _ _.
-          let p = lock.modulus_fits in
-          let q = lock.order_fits in
-          Turns.carrying lock.modulus lock.order lock.base (omega arith) p.1 (omega arith) q.1 lock.turns key tweak
+      | Group lock ↦ group_carries lock.modulus lock.order lock.base lock.modulus_fits lock.order_fits lock.turns
     ] };
 
     fn opens(&self, key: &[u8; 32], value: &[u8; 32]) -> bool {

@@ -1,5 +1,5 @@
--- Powers of a base whose power at the order is one, and the law of carrying.
-use Rattle.std.specs.Prelude.{◌≡◌, ℕ, zero, suc, ◌+◌, ◌*◌, ◌/◌, ◌%◌, ◌^◌, ◌<◌, List}
+-- Lemmas on powers of a base whose power at the order is one, from which the law of carrying follows.
+use Rattle.std.specs.Prelude.{◌≡◌, ℕ, zero, suc, ◌+◌, ◌*◌, ◌/◌, ◌%◌, ◌^◌, ◌<◌, ◌≤◌, List, length}
 use Rattle.std.proofs.Common.{sym, ap, ◌∙◌, mul_comm, one-mul, mul-zero, mul-suc, mul_assoc, mul_right_comm, add-mul, mod-lt, arith, pow-add}
 use Rattle.std.proofs.Math.Nat.{pow-zero, mod-add-div', div-add-mod, mod-mod, add-mul-mod_self_right}
 use Rattle.octets.proofs.Laws.{number_back}
@@ -44,3 +44,11 @@ carrying p q g some most more few turn key tweak =
     let right : number_in (as_value (g ^ k % p)) % p * g ^ t % p ≡ g ^ (k + t) % p =
     ap (λ n. n % p * g ^ t % p) (number_of_value (g ^ k % p) (omega arith)) ∙ ap (λ n. n * g ^ t % p) (mod-mod (g ^ k) p) ∙ factor_mod (g ^ k) (g ^ t) p ∙ ap (λ n. n % p) (sym (pow-add g k t)) in
     ap as_value (left ∙ sym right)
+
+-- So it holds of every group whose numbers are within their bounds.
+pub group_carries : (p q g : ℕ) → (3 ≤ p) × (p < 2 ^ 31) → (2 ≤ q) × (q < 2 ^ 31) → g ^ q % p ≡ 1 → (key tweak : List ℕ) → length key ≡ 32 → length tweak ≡ 32
+    → (group_lock p q g).value_of ((group_lock p q g).carried_key key tweak) ≡ (group_lock p q g).carried_value ((group_lock p q g).value_of key) tweak
+group_carries p q g modulus order turn key tweak _ _ =
+    let least = modulus.0 in
+    let some = order.0 in
+    carrying p q g (omega arith) modulus.1 (omega arith) order.1 turn key tweak

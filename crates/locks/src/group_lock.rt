@@ -2,8 +2,7 @@
 ghost use Rattle.std.specs.Prelude.{◌≡◌, ◌%◌, ◌^◌, ◌<◌, ◌≤◌, length, MatchResult};
 ghost use Rattle.locks.specs.Figures.{Worked};
 ghost use Rattle.locks.specs.Group.{Allowed, number_in, as_value, group_lock};
-ghost use Rattle.std.proofs.Common.{arith};
-ghost use Rattle.locks.specs.Turns;
+ghost use Rattle.locks.specs.Turns.{group_carries};
 
 use crate::lock::Lock;
 use crate::power::power;
@@ -66,10 +65,7 @@ fn as_value(number: u64) -> [u8; 32]
 impl Lock for GroupLock {
     ghost meaning = { λ lock. group_lock lock.modulus lock.order lock.base };
 
-    ghost carrying = { λ lock key tweak _ _.
-        let p = lock.modulus_fits in
-        let q = lock.order_fits in
-        Turns.carrying lock.modulus lock.order lock.base (omega arith) p.1 (omega arith) q.1 lock.turns key tweak };
+    ghost carrying = { λ lock. group_carries lock.modulus lock.order lock.base lock.modulus_fits lock.order_fits lock.turns };
 
     fn opens(&self, key: &[u8; 32], value: &[u8; 32]) -> bool {
         let exponent = number_in(key) % self.order;

@@ -1,6 +1,6 @@
 // The hash lock: the value is the SHA-256 of the key, and carrying changes neither.
 ghost use Rattle.locks.specs.Meaning.{hash_lock};
-ghost use Rattle.std.proofs.Common.{rules};
+ghost use Rattle.std.specs.Prelude.{refl};
 
 use crate::lock::Lock;
 use octets::values::same32;
@@ -12,7 +12,7 @@ pub struct HashLock;
 impl Lock for HashLock {
     ghost meaning = { λ lock. hash_lock };
 
-    ghost carrying = { Prim.search rules };
+    ghost carrying = { λ lock key tweak _ _. refl };
 
     fn opens(&self, key: &[u8; 32], value: &[u8; 32]) -> bool {
         same32(value, &sha256(key))

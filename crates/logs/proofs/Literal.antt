@@ -3,7 +3,7 @@ use Rattle.std.proofs.Common.{◌≡◌, ℕ, suc, ◌+◌, ◌-◌, ◌<◌, Bo
 use Rattle.std.proofs.lemmas.Bool.{eqb-true, eqb-false, ne_eqb, eq-eqb}
 use Rattle.money.specs.Amounts.{Amount, contains}
 use Rattle.money.specs.Terms.{Terms}
-use Rattle.money.specs.Contains.{contains_decides}
+use Rattle.money.proofs.Contains.{contains_decides}
 use Rattle.logs.specs.declared.update.Update.TheVariants.{Add, Fulfil, Fail, Fee}
 use Rattle.logs.specs.Gross.{lessened, raised, credited, moved, walked, adds_total, Numbered, FulfilledOnce, NothingRefused, LiteralGross}
 use Rattle.logs.specs.Logs.{Log, fulfilled, failed, either, amount_of}

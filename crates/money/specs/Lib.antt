@@ -1,5 +1,3 @@
 pub mod Amounts
-pub mod Terms
-pub mod Filling
-pub mod Contains
 pub mod Eights
+pub mod Terms

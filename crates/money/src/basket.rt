@@ -3,9 +3,8 @@ ghost use Rattle.std.specs.Prelude.{◌≡◌, ℕ, ◌≤◌, length, slice_ind
 ghost use Rattle.std.specs.Option.{option_map};
 ghost use Rattle.money.specs.Amounts.{row, limited};
 ghost use Rattle.money.specs.Terms.{eights};
-ghost use Rattle.money.specs.Filling.{row_past};
-ghost use Rattle.std.proofs.Common.{arith, rules};
-ghost use Rattle.money.specs.Eights.{eight_back};
+ghost use Rattle.std.proofs.Common.{rules};
+ghost use Rattle.money.specs.Eights.{row_past, row_back};
 
 use crate::kind::Money;
 use crate::{rows, units};
@@ -44,17 +43,17 @@ impl Money for Basket {
 
     ghost asset = { λ b. row b.amounts };
 
-    ghost assets = { first_of (Prim.search rules, Prim.grind (arith, Self.row.coded.inj)) };
+    ghost assets = { Prim.search rules };
 
-    ghost width = { first_of (Prim.search rules, Prim.grind (arith, Self.row.coded.inj)) };
+    ghost width = { Prim.search rules };
 
-    ghost within = { first_of (Prim.search rules, Prim.grind (arith, Self.row.coded.inj)) };
+    ghost within = { Prim.search rules };
 
     ghost past = { λ x. row_past 4 x.amounts x.ok.0 };
 
-    ghost long = { first_of (Prim.search rules, Prim.grind (arith, Self.row.coded.inj)) };
+    ghost long = { Prim.search rules };
 
-    ghost back = { λ x. eight_back 4 (row x.amounts) (λ k. let most = x.ok.1 k in omega arith) (row_past 4 x.amounts x.ok.0) };
+    ghost back = { λ x. row_back 4 x.amounts x.ok.0 x.ok.1 };
 
     fn asset_count() -> usize {
         Self::ASSETS

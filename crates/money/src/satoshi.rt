@@ -1,10 +1,10 @@
 // The satoshi: one asset.
-ghost use Rattle.std.specs.Prelude.{◌≡◌, ℕ, zero, suc, ◌^◌, ◌<◌, ◌≤◌, [], ◌∷◌, if◌then◌else◌, Some, None, nat_le, refl};
+ghost use Rattle.std.specs.Prelude.{◌≡◌, ◌≤◌, [], ◌∷◌, if◌then◌else◌, Some, None, nat_le};
 ghost use Rattle.std.specs.Option.{option_map};
 ghost use Rattle.money.specs.Amounts.{row};
 ghost use Rattle.money.specs.Terms.{eights};
-ghost use Rattle.std.proofs.Common.{arith, rules};
-ghost use Rattle.money.specs.Eights.{eight_back};
+ghost use Rattle.std.proofs.Common.{rules};
+ghost use Rattle.money.specs.Eights.{single_back};
 
 use crate::kind::Money;
 use crate::units;
@@ -43,20 +43,17 @@ impl Money for Satoshi {
 
     ghost asset = { λ s. row (s.value ∷ []) };
 
-    ghost assets = { first_of (Prim.search rules, Prim.grind (arith, Self.row.coded.inj)) };
+    ghost assets = { Prim.search rules };
 
-    ghost width = { first_of (Prim.search rules, Prim.grind (arith, Self.row.coded.inj)) };
+    ghost width = { Prim.search rules };
 
-    ghost within = { first_of (Prim.search rules, Prim.grind (arith, Self.row.coded.inj)) };
+    ghost within = { Prim.search rules };
 
-    ghost past = { first_of (Prim.search rules, Prim.grind (arith, Self.row.coded.inj)) };
+    ghost past = { Prim.search rules };
 
-    ghost long = { first_of (Prim.search rules, Prim.grind (arith, Self.row.coded.inj)) };
+    ghost long = { Prim.search rules };
 
-    ghost back = { λ x.
-        let small : (k : ℕ) → row (x.value ∷ []) k < 256 ^ 8 = elim [ zero ↦ let h = x.ok in omega arith | suc k ↦ omega arith ] in
-        let none : (k : ℕ) → 1 ≤ k → row (x.value ∷ []) k ≡ 0 = elim [ zero ↦ λ h. absurd (omega arith) | suc k ↦ λ h. refl ] in
-        eight_back 1 (row (x.value ∷ [])) small none };
+    ghost back = { λ x. single_back x.value x.ok };
 
     fn asset_count() -> usize {
         Self::ASSETS

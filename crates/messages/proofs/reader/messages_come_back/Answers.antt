@@ -1,6 +1,6 @@
 use Rattle.std.proofs.Common.{ap, ◌∙◌}
 use Rattle.money.specs.Amounts.{limited}
-use Rattle.money.specs.Contains.{given}
+use Rattle.money.proofs.Contains.{given}
 use Rattle.messages.proofs.RoundTrip.{reads_back, bytes_back_again}
 use Rattle.messages.proofs.reader.messages_come_back.Goals as goal
 

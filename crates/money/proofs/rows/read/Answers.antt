@@ -1,7 +1,7 @@
 use Rattle.money.specs.Terms.{eights}
 use Rattle.money.specs.Eights.{eight_past}
 use Rattle.std.proofs.Common.{refl}
-use Rattle.money.specs.Filling.{filled_none, filled_more, filled_stop, filled_all, filled_within}
+use Rattle.money.proofs.Filling.{filled_none, filled_more, filled_stop, filled_all, filled_within}
 use Rattle.money.proofs.rows.read.Goals as goal
 
 pub loop-i-init : goal.loop-i-init

@@ -1,5 +1,5 @@
 use Rattle.money.specs.Terms.{eights}
-use Rattle.money.specs.Filling.{Filled}
+use Rattle.money.proofs.Filling.{Filled}
 use Rattle.money.proofs.rows.read.Given as goal
 
 abbrev pub invariant-loop-i : goal.invariant-loop-i

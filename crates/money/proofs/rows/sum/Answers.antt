@@ -1,6 +1,7 @@
 use Rattle.std.proofs.Common.{◌≡◌, ℕ, ◌+◌, length, refl, arith}
 use Rattle.money.specs.Amounts.{row}
-use Rattle.money.specs.Filling.{row_past, filled_none, filled_more, filled_stop, filled_all, filled_within}
+use Rattle.money.specs.Eights.{row_past}
+use Rattle.money.proofs.Filling.{filled_none, filled_more, filled_stop, filled_all, filled_within}
 use Rattle.money.proofs.rows.sum.Goals as goal
 
 pub loop-i-init : goal.loop-i-init

@@ -1,5 +1,5 @@
 use Rattle.std.proofs.Common.{ℕ, ◌+◌}
-use Rattle.money.specs.Filling.{Filled}
+use Rattle.money.proofs.Filling.{Filled}
 use Rattle.money.specs.Amounts.{row}
 use Rattle.money.proofs.rows.sum.Given as goal
 

@@ -1,7 +1,7 @@
 use Rattle.std.proofs.Common.{◌≡◌, ◌<◌, ◌≤◌, length, get_or, sym, ⊎_elim, arith, below_more}
 use Rattle.std.proofs.lemmas.List.{get_or_past}
 use Rattle.std.proofs.lemmas.Bool.{cases_lt}
-use Rattle.money.specs.Contains.{given, refused, one_given, one_refused}
+use Rattle.money.proofs.Contains.{given, refused, one_given, one_refused}
 use Rattle.money.specs.Amounts.{row}
 use Rattle.money.proofs.rows.within.Goals as goal
 

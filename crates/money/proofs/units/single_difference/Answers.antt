@@ -1,6 +1,6 @@
 use Rattle.std.proofs.Common.{◌-◌, [], ◌∷◌, refl, arith}
 use Rattle.money.specs.Amounts.{row}
-use Rattle.money.specs.Filling.{single_answer, single_fits}
+use Rattle.money.proofs.Filling.{single_answer, single_fits}
 use Rattle.money.proofs.units.single_difference.Goals as goal
 
 pub returns : goal.returns

@@ -1,7 +1,7 @@
 use Rattle.std.proofs.Common.{suc, cond, leb, Some, None, ap, ◌∙◌, arith}
 use Rattle.money.specs.Terms.{eights}
 use Rattle.money.specs.Eights.{eight_past}
-use Rattle.money.specs.Filling.{single_answer, single_fits}
+use Rattle.money.proofs.Filling.{single_answer, single_fits}
 use Rattle.money.proofs.units.single_read.Goals as goal
 
 pub returns : goal.returns

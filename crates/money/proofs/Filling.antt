@@ -7,7 +7,7 @@ use Rattle.std.proofs.lemmas.Bool.{cases_lt}
 use Rattle.std.proofs.Math.Arith.{lt-one}
 use Rattle.money.specs.Amounts.{Amount, row}
 use Rattle.std.specs.Option.{option_map}
-use Rattle.money.specs.Contains.{given_where, given, refused, one_given, one_refused}
+use Rattle.money.proofs.Contains.{given_where, given, refused, one_given, one_refused}
 
 -- The row has a place for each asset; the first i assets pass the test, and the row holds them.
 pub record Filled (n : ℕ) (f g h : Amount) (i : ℕ) (xs : List ℕ) : Type 0 where
@@ -54,10 +54,6 @@ module _ (n : ℕ) (f g h : Amount) (xs : List ℕ) where
       (λ (l : k < n). let b = each k (now.passed k (omega arith)) in let same = now.holds k (omega arith) in omega arith)
       (λ (l : n ≤ k). let none = get_or_past xs k 0 (omega arith) in omega arith)
       (cases_lt k n)
-
--- Past its places a row means nothing.
-pub row_past : (n : ℕ) (xs : List ℕ) → length xs ≡ n → (k : ℕ) → n ≤ k → row xs k ≡ 0
-row_past n xs long k l = get_or_past xs k 0 (omega arith)
 
 -- One number means an amount of one asset.
 single : (v : ℕ) (h : Amount) → v ≡ h 0 → ((k : ℕ) → h (suc k) ≡ 0) → row (v ∷ []) ≡ h

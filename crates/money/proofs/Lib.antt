@@ -1,0 +1,2 @@
+pub mod Contains
+pub mod Filling
