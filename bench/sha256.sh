@@ -3,7 +3,7 @@
 set -euo pipefail
 cd "$(dirname "$0")/.."
 mkdir -p target/bench
-rt check bench_sha256 >target/bench/check.log || { tail -n 20 target/bench/check.log; exit 1; }
+(cd crates/bench_sha256 && rt run) >target/bench/check.log 2>&1 || { tail -n 20 target/bench/check.log; exit 1; }
 gcc -O3 -o target/bench/sha256_c bench/sha256.c
 rustc -O -o target/bench/sha256_rust bench/sha256.rs
 
@@ -15,7 +15,7 @@ least() {
     done | sort -n | head -n 1
 }
 
-rattle=target/bin/bench_sha256 c=target/bench/sha256_c rust=target/bench/sha256_rust
+rattle=crates/bench_sha256/out/bench_sha256 c=target/bench/sha256_c rust=target/bench/sha256_rust
 digest=$("$rattle")
 [ "$("$c")" = "$digest" ] && [ "$("$rust")" = "$digest" ] || { echo "the digests differ"; exit 1; }
 a=$(least "$rattle") b=$(least "$c") d=$(least "$rust")

@@ -9,6 +9,7 @@ use desk::pages::{Statement, name, page};
 use desk::questions::answer;
 use notation::lines::split_line;
 use std::io::Read;
+use std::process::ExitCode;
 use std::{env, fs};
 
 // The bytes of a file; the error names it.
@@ -93,13 +94,13 @@ fn run(rt: &HostRuntime) -> anyhow::Result<bool> {
 }
 
 // Ends with status 1 where a line, the file or the memory failed.
-fn main(rt: HostRuntime) -> anyhow::Result<()> {
+fn main(rt: HostRuntime) -> ExitCode {
     match run(&rt) {
-        Ok(true) => Ok(()),
-        Ok(false) => Err(anyhow!("some lines could not be read")),
+        Ok(true) => ExitCode::SUCCESS,
+        Ok(false) => ExitCode::FAILURE,
         Err(error) => {
-            eprintln!(rt; "relay: {error}")?;
-            Err(error)
+            let _told = eprintln!(rt; "relay: {error}");
+            ExitCode::FAILURE
         }
     }
 }
