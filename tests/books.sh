@@ -3,7 +3,7 @@
 # A run that the gate stores has to end with status 0, so these stand here.
 set -u
 root="$(cd "$(dirname "${BASH_SOURCE[0]}")/.." && pwd)"
-program="$root/crates/relay/out/relay"
+program="$root/relay"
 work="$(mktemp -d)"
 trap 'rm -rf "$work"' EXIT
 failed=0
