@@ -14,7 +14,7 @@ use Rattle.commitments.specs.Entries.{commitment_in}
 use Rattle.commitments.specs.Headings.{Heads, head_bytes, log_bytes, headed_bytes}
 use Rattle.commitments.proofs.Listing.{joined_append}
 
-headed : {M : Type 0} (kind : Ghosts M) (h : Heading M) (c : Commitment) → Heads kind h c → head_bytes kind h ≡ heading_bytes kind.terms c
+pub headed : {M : Type 0} (kind : Ghosts M) (h : Heading M) (c : Commitment) → Heads kind h c → head_bytes kind h ≡ heading_bytes kind.terms c
 headed kind h c same = λ i.
     let written = kind.terms.written in
     bytes_of 8 (same.number i) ++ ((side_byte (same.holder i) ∷ []) ++ (bytes_of 4 (same.rate i) ++ (written (same.fee i) ++ (written (same.funders i) ++ (written (same.others i) ++ bytes_of 2 (same.pending i))))))
