@@ -1,15 +1,15 @@
 -- What the lines of a book ask for.
 use Rattle.std.specs.Prelude.{◌≡◌, ℕ, zero, suc, ◌<◌, true, false, ◌⊎◌, List, [], length, Some, None, Ok, Err, vec_items, codes, Option, Result}
 use Rattle.std.specs.Borrow.{Bor}
+use Rattle.notation.specs.Hex.{bytes_from, value_from}
+use Rattle.notation.specs.Lines.{front, is_blank, first_word, later_words, passed_over, printable}
+use Rattle.notation.specs.Numbers.{ReadsNumber}
 use Rattle.commands.specs.declared.command.Command.{Command}
 use Rattle.commands.specs.declared.command.Command.TheVariants.{Sha, Read, Opens, CarryKey, CarryValue}
 use Rattle.commands.specs.declared.command.LockName.{LockName}
 use Rattle.commands.specs.declared.command.LockName.TheVariants.{Hash, Group}
 use Rattle.commands.specs.declared.fault.Fault.{Fault}
 use Rattle.commands.specs.declared.fault.Fault.TheVariants.{NoMemory}
-use Rattle.notation.specs.Hex.{bytes_from, value_from}
-use Rattle.notation.specs.Lines.{front, is_blank, first_word, later_words, passed_over, printable}
-use Rattle.notation.specs.Numbers.{ReadsNumber}
 
 -- What stands behind so many words, and the word there.
 abbrev pub behind : ℕ → List ℕ → List ℕ

@@ -1,7 +1,7 @@
 -- The heading that the code makes, and the commitment that it heads.
 use Rattle.std.specs.Prelude.{◌≡◌, ℕ, ◌≤◌, List, [], ◌∷◌, ◌++◌, length}
-use Rattle.octets.specs.Numbers.{bytes_of}
 use Rattle.std.specs.List.{flat_map}
+use Rattle.octets.specs.Numbers.{bytes_of}
 use Rattle.money.specs.declared.kind.Money.{Ghosts}
 use Rattle.logs.specs.Logs.{means}
 use Rattle.logs.specs.declared.update.Update.{Update}

@@ -1,7 +1,7 @@
 // The bytes of a commitment into any sink, and its signature.
 ghost use Rattle.std.specs.Prelude.{◌≡◌, ◌≤◌, length};
-ghost use Rattle.commitments.specs.Bytes.{commitment_bytes, signature_of};
 ghost use Rattle.logs.specs.Logs.{means};
+ghost use Rattle.commitments.specs.Bytes.{commitment_bytes, signature_of};
 ghost use Rattle.commitments.specs.Entries.{entry_commitment};
 ghost use Rattle.commitments.specs.Headings.{headed_bytes};
 ghost use Rattle.commitments.specs.Sinks.{Puts};

@@ -1,5 +1,5 @@
 // What stands at the head of a commitment, from the opening terms and both logs.
-ghost use Rattle.std.specs.Prelude.{◌≡◌, ◌+◌, ◌≤◌, length};
+ghost use Rattle.std.specs.Prelude.{◌≤◌, length};
 ghost use Rattle.logs.specs.Logs.{means};
 ghost use Rattle.commitments.specs.Entries.{entry_commitment};
 ghost use Rattle.commitments.specs.Headings.{Heads, head_bytes};

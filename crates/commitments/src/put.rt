@@ -1,7 +1,7 @@
 // The parts of a commitment, put into a sink.
-ghost use Rattle.std.specs.Prelude.{◌+◌, List, [], ◌∷◌, ◌++◌};
-ghost use Rattle.octets.specs.Numbers.{bytes_of};
+ghost use Rattle.std.specs.Prelude.{[], ◌∷◌};
 ghost use Rattle.std.specs.List.{flat_map};
+ghost use Rattle.octets.specs.Numbers.{bytes_of};
 ghost use Rattle.logs.specs.Logs.{mean, means};
 ghost use Rattle.commitments.specs.Bytes.{side_byte, payment_bytes};
 ghost use Rattle.commitments.specs.Commitments.{listed_one, listed};

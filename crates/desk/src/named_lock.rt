@@ -1,10 +1,8 @@
 // The lock that a book names: the hash lock, or a group.
 ghost use Rattle.std.specs.Prelude.{◌≡◌, MatchResult, refl};
-ghost use Rattle.locks.specs.Meaning.{Meaning, hash_lock};
-ghost use Rattle.locks.specs.Group.{group_lock};
+ghost use Rattle.locks.specs.Turns.{group_carries};
 ghost use Rattle.desk.specs.NamedLocks.{meaning_of, Makeable};
 ghost use Rattle.desk.specs.Locked.{lock_meaning};
-ghost use Rattle.locks.specs.Turns.{group_carries};
 ghost use Rattle.desk.specs.declared.named_lock.NamedLock.TheVariants.{Hash, Group};
 
 use commands::command::LockName;

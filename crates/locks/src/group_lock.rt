@@ -1,5 +1,5 @@
 // The group lock: powers of a base, by a modulus and an order.
-ghost use Rattle.std.specs.Prelude.{◌≡◌, ◌%◌, ◌^◌, ◌<◌, ◌≤◌, length, MatchResult};
+ghost use Rattle.std.specs.Prelude.{◌≡◌, ◌%◌, ◌^◌, ◌<◌, ◌≤◌, MatchResult};
 ghost use Rattle.locks.specs.Figures.{Worked};
 ghost use Rattle.locks.specs.Group.{Allowed, number_in, as_value, group_lock};
 ghost use Rattle.locks.specs.Turns.{group_carries};

@@ -1,6 +1,6 @@
 // The hash lock: the value is the SHA-256 of the key, and carrying changes neither.
-ghost use Rattle.locks.specs.Meaning.{hash_lock};
 ghost use Rattle.std.specs.Prelude.{refl};
+ghost use Rattle.locks.specs.Meaning.{hash_lock};
 
 use crate::lock::Lock;
 use octets::values::same32;

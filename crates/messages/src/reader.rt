@@ -1,11 +1,11 @@
 // The reader: it looks at the type and the length, and hands out each field as a part of the message.
 ghost use Rattle.std.specs.Prelude.{◌≡◌, ◌+◌};
 ghost use Rattle.std.specs.Option.{option_map, ok_or};
+ghost use Rattle.octets.specs.Places.{part};
 ghost use Rattle.messages.specs.Contents.{content, fulfil, fail, signed, revoked, fee, reestablish};
 ghost use Rattle.messages.specs.Reading.{contents, number_at, whole, read_add, read_fields, read_message};
 ghost use Rattle.messages.specs.RoundTrip.{RoundTrip};
 ghost use Rattle.messages.specs.declared.fault.MessageFault.TheVariants.{Malformed};
-ghost use Rattle.octets.specs.Places.{part};
 
 use crate::fault::MessageFault;
 use crate::message::Message;

@@ -5,8 +5,8 @@ use Rattle.std.proofs.Math.Path.{fun_ext}
 use Rattle.std.proofs.lemmas.List.{get_or-set_same, get_or-set_other, get_or_past, length-set}
 use Rattle.std.proofs.lemmas.Bool.{cases_lt}
 use Rattle.std.proofs.Math.Arith.{lt-one}
-use Rattle.money.specs.Amounts.{Amount, row}
 use Rattle.std.specs.Option.{option_map}
+use Rattle.money.specs.Amounts.{Amount, row}
 use Rattle.money.proofs.Contains.{given_where, given, refused, one_given, one_refused}
 
 -- The row has a place for each asset; the first i assets pass the test, and the row holds them.

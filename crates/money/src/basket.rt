@@ -1,9 +1,9 @@
 // The basket: four assets.
 ghost use Rattle.std.specs.Prelude.{◌≡◌, ℕ, ◌≤◌, length, slice_index};
 ghost use Rattle.std.specs.Option.{option_map};
+ghost use Rattle.std.proofs.Common.{rules};
 ghost use Rattle.money.specs.Amounts.{row, limited};
 ghost use Rattle.money.specs.Terms.{eights};
-ghost use Rattle.std.proofs.Common.{rules};
 ghost use Rattle.money.specs.Eights.{row_past, row_back};
 
 use crate::kind::Money;

@@ -1,9 +1,9 @@
 // The satoshi: one asset.
 ghost use Rattle.std.specs.Prelude.{◌≡◌, ◌≤◌, [], ◌∷◌, if◌then◌else◌, Some, None, nat_le};
 ghost use Rattle.std.specs.Option.{option_map};
+ghost use Rattle.std.proofs.Common.{rules};
 ghost use Rattle.money.specs.Amounts.{row};
 ghost use Rattle.money.specs.Terms.{eights};
-ghost use Rattle.std.proofs.Common.{rules};
 ghost use Rattle.money.specs.Eights.{single_back};
 
 use crate::kind::Money;

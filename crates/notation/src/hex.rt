@@ -1,7 +1,7 @@
 // Bytes as hex digits.
 ghost use Rattle.std.specs.Prelude.{◌≡◌, ◌+◌, ◌*◌, ◌<◌, length, IfSome, IfOk, if◌then◌else◌, Some, None, vec_items, string_bytes};
-ghost use Rattle.notation.specs.Hex.{digit_number, digit_of, hex_of, byte_of, bytes_from, value_from, HexReadsBack};
 ghost use Rattle.std.specs.Option.{option_map};
+ghost use Rattle.notation.specs.Hex.{digit_number, digit_of, hex_of, byte_of, bytes_from, value_from, HexReadsBack};
 
 use std::alloc::{AllocError, Global};
 

@@ -1,12 +1,12 @@
 -- Every secret that was taken comes back: what each place holds, what the fit test said of it, and which place answers.
 use Rattle.std.proofs.Common.{◌≡◌, ℕ, zero, suc, ◌+◌, ◌-◌, ◌*◌, ◌/◌, ◌%◌, ◌^◌, ◌<◌, ◌≤◌, Bool, true, false, cond, ◌&&◌, eqb, ◌⊎◌, List, [], ◌∷◌, length, get_or, set, replicate, Some, None, Option, sym, refl, ap, ◌∙◌, subst, inl, inr, ⊎_elim, add-zero, mod-lt, mul_assoc, mul_comm, add-mul, one-mul, pow-suc, zero-add, zero-mul, mul-one, div-mul-le_self, div-one, arith}
-use lib.Count.{trailing_le, trailing_of_zero}
-use native.Mathlib.Nat.{pow-succ', div-eq_of_lt, div-div-eq-div-mul}
 use Rattle.std.proofs.lemmas.Nat.{leading_top, div-add-mod', pow_pos, pow_below, shr_high}
 use Rattle.std.proofs.lemmas.Slice.Eq.{bytes_eq-Decides}
 use Rattle.std.proofs.lemmas.List.{get_or-set_same, get_or-set_other, get_or_past, get_or-replicate, length-set, length-replicate}
 use Rattle.std.proofs.lemmas.Bool.{cases_lt, cases_eq, and_parts, eq-eqb, eqb-true}
 use Rattle.std.specs.Str.{bytes_eq}
+use lib.Count.{trailing_le, trailing_of_zero}
+use native.Mathlib.Nat.{pow-succ', div-eq_of_lt, div-div-eq-div-mul}
 use Rattle.secrets.specs.declared.known.Known.{Known}
 use Rattle.secrets.specs.Derivation.{derived, index_of, secret_of}
 use Rattle.secrets.specs.Store.{Places, place_of, cleared, agrees, agrees_below, fits, kept, answered, first_of, older_from, older, Taken, none, one_more, ComesBack, HonestFits}

@@ -1,8 +1,8 @@
 -- Derivation bit by bit, and by way of an index whose low bits are cleared.
 use Rattle.std.proofs.Common.{◌≡◌, ℕ, zero, suc, ◌+◌, ◌-◌, ◌*◌, ◌/◌, ◌%◌, ◌^◌, ◌<◌, ◌≤◌, false, cond, eqb, List, sym, refl, ap, ◌∙◌, ⊎_elim, mul_assoc, mul_comm, sub-one, arith}
-use native.Mathlib.Nat.{pow-succ'}
 use Rattle.std.proofs.lemmas.Nat.{shl-shr, shr-shr, pow-add}
 use Rattle.std.proofs.lemmas.Bool.{cases_lt}
+use native.Mathlib.Nat.{pow-succ'}
 use Rattle.sha256.specs.Fips.{hash}
 use Rattle.secrets.specs.Derivation.{bit_set, flipped, turned, derived}
 use Rattle.secrets.specs.Store.{cleared}

@@ -1,5 +1,5 @@
 // The store of the peer's secrets: 49 places keep all of them.
-ghost use Rattle.std.specs.Prelude.{◌≡◌, ◌^◌, ◌<◌, true, false, if◌then◌else◌, Some, None};
+ghost use Rattle.std.specs.Prelude.{◌≡◌, ◌<◌, if◌then◌else◌, Some, None};
 ghost use Rattle.secrets.specs.Store.{no_secrets, place_of, agrees, answered, fits, kept, older, ComesBack, HonestFits};
 
 use crate::derivation::derive;

@@ -1,5 +1,5 @@
 // The functions and constants of SHA-256 on words of 32 bits.
-ghost use Rattle.std.specs.Prelude.{◌≡◌, ◌+◌, ◌<◌, ◌≤◌, slice_index};
+ghost use Rattle.std.specs.Prelude.{◌≡◌, ◌<◌, ◌≤◌, slice_index};
 ghost use Rattle.sha256.specs.Fips.{ch, maj, big_sigma0, big_sigma1, small_sigma0, small_sigma1, constants, mixed, round, sums};
 
 const CONSTANTS: [u32; 64] = [
