@@ -1,4 +1,4 @@
-// How many bytes a commitment has.
+// How many bytes a heading makes with the pending payments of both logs.
 ghost use Rattle.std.specs.Prelude.{◌≡◌, ◌*◌, ◌≤◌, length};
 ghost use Rattle.std.specs.List.{flat_map};
 ghost use Rattle.logs.specs.Logs.{mean, means};

@@ -99,6 +99,7 @@ fn main(rt: HostRuntime) -> ExitCode {
         Ok(true) => ExitCode::SUCCESS,
         Ok(false) => ExitCode::FAILURE,
         Err(error) => {
+            // where this cannot be written either, the exit code tells
             let _told = eprintln!(rt; "relay: {error}");
             ExitCode::FAILURE
         }
