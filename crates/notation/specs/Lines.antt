@@ -1,11 +1,11 @@
 -- Lines, and the words in them.
-use Rattle.std.specs.Prelude.{◌≡◌, ℕ, suc, ◌+◌, ◌-◌, ◌<◌, Bool, cond, not, ◌&&◌, ◌||◌, List, [], ◌∷◌, length, take, drop, Some, None, Option, ◌==◌, nat_le, slice_index}
+use Rattle.std.specs.Prelude.{◌≡◌, ℕ, ◌+◌, ◌-◌, ◌<◌, Bool, cond, not, ◌&&◌, ◌||◌, List, [], length, take, drop, Some, None, Option, ◌==◌, nat_le, slice_index}
 use Rattle.std.specs.Borrow.{Bor}
+use Rattle.std.specs.List.{prefix_len}
 
 -- How many characters at the front pass a test.
-unfoldable pub front : (ℕ → Bool) → List ℕ → ℕ
-front test [] = 0
-front test (c ∷ cs) = cond (test c) (suc (front test cs)) 0
+abbrev pub front : (ℕ → Bool) → List ℕ → ℕ
+front test text = prefix_len test text
 
 -- All characters pass a test.
 abbrev pub all_pass : (ℕ → Bool) → List ℕ → Bool

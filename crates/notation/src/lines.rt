@@ -1,8 +1,13 @@
 // Lines, and the words in them.
 ghost use Rattle.std.specs.Prelude.{◌≡◌, ◌<◌, length};
-ghost use Rattle.notation.specs.Lines.{first_line, later_lines, without_return, Splits, passed_over, printable};
+ghost use Rattle.notation.specs.Lines.{is_blank, first_line, later_lines, without_return, Splits, passed_over, printable};
 
-use crate::front::{Blank, InLine, Letter, Printable, front};
+// Words are separated by spaces and tabs.
+fn is_blank(byte: u8) -> bool
+    ensures { result ≡ is_blank byte }
+{
+    matches!(byte, b' ' | b'\t')
+}
 
 // The first line of a text, and what stands behind it.
 pub fn split_line(text: &[u8]) -> (&[u8], &[u8])
@@ -10,11 +15,9 @@ pub fn split_line(text: &[u8]) -> (&[u8], &[u8])
     ensures rest { result.1.now ≡ later_lines text.now }
     ensures shorter { 0 < length text.now → length result.1.now < length text.now }
 {
-    let end = front::<InLine>(text);
-    if end < text.len() {
-        (&text[0..end], &text[end + 1..])
-    } else {
-        (text, &text[text.len()..])
+    match text.iter().position(|byte| *byte == b'\n') {
+        Some(end) => (&text[..end], &text[end + 1..]),
+        None => (text, &[]),
     }
 }
 
@@ -22,36 +25,32 @@ pub fn split_line(text: &[u8]) -> (&[u8], &[u8])
 pub fn without_return(line: &[u8]) -> &[u8]
     ensures { result.now ≡ without_return line.now }
 {
-    if line.len() > 0 && line[line.len() - 1] == b'\r' {
-        &line[0..line.len() - 1]
-    } else {
-        line
-    }
+    line.strip_suffix(b"\r").unwrap_or(line)
 }
 
 // The first word of a line and the rest of it.
 pub fn split_word(line: &[u8]) -> Option<(&[u8], &[u8])>
     ensures { Splits line.now result }
 {
-    let start = front::<Blank>(line);
-    if start >= line.len() {
-        return None;
-    }
+    let start = line.iter().position(|byte| !is_blank(*byte))?;
     let words = &line[start..];
-    let end = front::<Letter>(words);
-    Some((&words[0..end], &words[end..]))
+    let end = words
+        .iter()
+        .position(|byte| is_blank(*byte))
+        .unwrap_or(words.len());
+    Some(words.split_at(end))
 }
 
 // Whether a line is empty or a comment.
 pub fn is_passed_over(line: &[u8]) -> bool
     ensures { result ≡ passed_over line.now }
 {
-    (line.len() > 0 && line[0] == b'#') || front::<Blank>(line) == line.len()
+    line.starts_with(b"#") || line.iter().all(|byte| is_blank(*byte))
 }
 
 // Whether a line has printable characters and tabs alone.
 pub fn is_printable(line: &[u8]) -> bool
     ensures { result ≡ printable line.now }
 {
-    front::<Printable>(line) == line.len()
+    line.iter().all(|byte| matches!(byte, b' '..=b'~' | b'\t'))
 }
