@@ -5,12 +5,10 @@ ghost use Rattle.notation.specs.Numbers.{ReadsNumber, NumbersReadBack};
 pub fn number(word: &[u8]) -> Option<u64>
     ensures { ReadsNumber word.now result }
 {
+    // `parse` would take a sign.
     match word {
         [b'+', ..] => None,
-        _ => match std::str::from_utf8(word) {
-            Ok(text) => text.parse::<u64>().ok(),
-            Err(_) => None,
-        },
+        _ => str::from_utf8(word).ok()?.parse().ok(),
     }
 }
 
