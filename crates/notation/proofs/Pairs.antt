@@ -1,6 +1,6 @@
 -- Hex digits two by two.
 use Rattle.std.proofs.Common.{◌≡◌, ℕ, suc, ◌+◌, ◌*◌, ◌/◌, ◌%◌, ◌<◌, ◌≤◌, List, [], ◌∷◌, ◌++◌, length, get_or, take, drop, Some, None, Option, sym, refl, ap, ◌∙◌, arith}
-use Rattle.std.proofs.lemmas.List.{take_more, flat_map_more, drop_more, drop_all, append_assoc, append-nil}
+use Rattle.std.proofs.lemmas.List.{take_more, flat_map_more, append_assoc, append-nil}
 use Rattle.std.proofs.lemmas.Bool.Decides.{nat_tests}
 use Rattle.octets.specs.Numbers.{Bytes}
 use Rattle.notation.specs.Hex.{digit_number, digit_of, hex_of, byte_of, before, bytes_from}
@@ -35,34 +35,25 @@ then_one : (read : List ℕ) (b : ℕ) (rest : Option (List ℕ)) → then_read 
 then_one read b (Some bs) = ap Some (sym (append_assoc read (b ∷ []) bs))
 then_one read b None = refl
 
-module _ (digits : List ℕ) (i : ℕ) (inside : 2 * i + 1 < length digits) where
-  -- The next two digits, and those behind them.
-  two_more : drop (2 * i) digits ≡ get_or digits (2 * i) 0 ∷ (get_or digits (2 * i + 1) 0 ∷ drop (2 * (i + 1)) digits)
-  two_more =
-      let next : 2 * i + 1 + 1 ≡ 2 * (i + 1) = omega arith in
-      drop_more digits (2 * i) 0 (omega arith)
-      ∙ ap (λ t. get_or digits (2 * i) 0 ∷ t) (drop_more digits (2 * i + 1) 0 inside ∙ ap (λ n. get_or digits (2 * i + 1) 0 ∷ drop n digits) next)
-
-  abbrev pub next_byte : Option ℕ
-  next_byte = byte_of (digit_number (get_or digits (2 * i) 0)) (digit_number (get_or digits (2 * i + 1) 0))
-
-  next_read : bytes_from (drop (2 * i) digits) ≡ before next_byte (bytes_from (drop (2 * (i + 1)) digits))
-  unfolding bytes_from
-  next_read = ap bytes_from two_more
-
-  pub read_more : (read : List ℕ) (b : ℕ) → then_read read (bytes_from (drop (2 * i) digits)) ≡ bytes_from digits → Some b ≡ next_byte → then_read (read ++ b ∷ []) (bytes_from (drop (2 * (i + 1)) digits)) ≡ bytes_from digits
-  read_more read b so_far is =
-      let rest = bytes_from (drop (2 * (i + 1)) digits) in
-      sym (then_one read b rest) ∙ ap (λ o. then_read read (before o rest)) is ∙ ap (then_read read) (sym next_read) ∙ so_far
-
-  pub read_stop : (read : List ℕ) → then_read read (bytes_from (drop (2 * i) digits)) ≡ bytes_from digits → None ≡ next_byte → bytes_from digits ≡ None
-  read_stop read so_far is =
-      let rest = bytes_from (drop (2 * (i + 1)) digits) in
-      sym so_far ∙ ap (then_read read) next_read ∙ ap (λ o. then_read read (before o rest)) (sym is)
-
-pub read_all : (digits read : List ℕ) (n : ℕ) → length digits ≤ n → then_read read (bytes_from (drop n digits)) ≡ bytes_from digits → bytes_from digits ≡ Some read
+-- The digits whose first two are this pair.
+pub next_read : (digits pair rest : List ℕ) → pair ≡ take 2 digits → rest ≡ drop 2 digits → 2 ≤ length digits → bytes_from digits ≡ before (byte_of (digit_number (get_or pair 0 0)) (digit_number (get_or pair 1 0))) (bytes_from rest)
 unfolding bytes_from
-read_all digits read n l so_far = sym so_far ∙ ap (λ t. then_read read (bytes_from t)) (drop_all n digits l) ∙ ap Some (append-nil read)
+next_read [] pair rest p r two = absurd (omega arith)
+next_read (a ∷ []) pair rest p r two = absurd (omega arith)
+next_read (a ∷ (b ∷ ds)) pair rest p r two =
+    λ i. before (byte_of (digit_number (get_or (sym p i) 0 0)) (digit_number (get_or (sym p i) 1 0))) (bytes_from (sym r i))
+
+module _ (read digits rest : List ℕ) (next : Option ℕ) (whole : Option (List ℕ)) (step : bytes_from digits ≡ before next (bytes_from rest)) (so_far : then_read read (bytes_from digits) ≡ whole) where
+  pub read_more : (b : ℕ) → Some b ≡ next → then_read (read ++ b ∷ []) (bytes_from rest) ≡ whole
+  read_more b is = sym (then_one read b (bytes_from rest)) ∙ ap (λ o. then_read read (before o (bytes_from rest))) is ∙ ap (then_read read) (sym step) ∙ so_far
+
+  pub read_stop : None ≡ next → whole ≡ None
+  read_stop is = sym so_far ∙ ap (then_read read) step ∙ ap (λ o. then_read read (before o (bytes_from rest))) (sym is)
+
+pub read_all : (read digits : List ℕ) (whole : Option (List ℕ)) → length digits ≡ 0 → then_read read (bytes_from digits) ≡ whole → whole ≡ Some read
+unfolding bytes_from
+read_all read [] whole none so_far = sym so_far ∙ ap Some (append-nil read)
+read_all read (d ∷ ds) whole none so_far = absurd (omega arith)
 
 none_before : (b : Option ℕ) → before b None ≡ None
 none_before (Some b) = refl

@@ -1,5 +1,5 @@
 // Bytes as hex digits.
-ghost use Rattle.std.specs.Prelude.{◌≡◌, ◌+◌, ◌*◌, ◌<◌, length, IfSome, IfOk, if◌then◌else◌, Some, None, vec_items, string_bytes};
+ghost use Rattle.std.specs.Prelude.{◌≡◌, ◌+◌, ◌*◌, ◌<◌, length, IfSome, IfOk, vec_items, string_bytes};
 ghost use Rattle.std.specs.Option.{option_map};
 ghost use Rattle.notation.specs.Hex.{digit_number, digit_of, hex_of, byte_of, bytes_from, value_from, HexReadsBack};
 
@@ -19,16 +19,16 @@ fn digit_number(digit: u8) -> Option<u8>
 }
 
 // The digit of a number below 16.
-fn digit_of(number: u8) -> u8
+fn digit_of(number: u8) -> char
     requires { number < 16 }
     ensures value { result ≡ digit_of number }
     ensures ascii { result < 128 }
 {
-    if number < 10 {
+    char::from(if number < 10 {
         b'0' + number
     } else {
         b'a' + number - 10
-    }
+    })
 }
 
 // The byte of two digits.
@@ -40,18 +40,17 @@ fn byte_of(high: u8, low: u8) -> Option<u8>
     Some(16 * high + low)
 }
 
-// Fills a row with the bytes of twice as many digits, and says whether they could be read.
-fn decode_into(digits: &[u8], out: &mut [u8]) -> bool
+// Fills a row with the bytes of twice as many digits, or answers nothing where one cannot be read.
+fn decode_into(mut digits: &[u8], out: &mut [u8]) -> Option<()>
     requires { length digits.now ≡ 2 * length out.old }
-    ensures { bytes_from digits.now ≡ (if result then Some out.new else None) }
+    ensures { bytes_from digits.now ≡ option_map (λ _. out.new) result }
 {
-    for i in 0..out.len() {
-        match byte_of(digits[2 * i], digits[2 * i + 1]) {
-            Some(byte) => out[i] = byte,
-            None => return false,
-        }
+    for byte in out {
+        let ([high, low], rest) = digits.split_first_chunk::<2>()?;
+        *byte = byte_of(*high, *low)?;
+        digits = rest;
     }
-    true
+    Some(())
 }
 
 // The bytes that digits stand for, or nothing where they cannot be read.
@@ -62,11 +61,7 @@ pub fn decode(heap: Global, digits: &[u8]) -> Result<Option<Vec<u8>>, AllocError
         return Ok(None);
     }
     let mut bytes = vec![in heap; 0u8; digits.len() / 2]?;
-    if decode_into(digits, bytes.as_mut_slice()) {
-        Ok(Some(bytes))
-    } else {
-        Ok(None)
-    }
+    Ok(decode_into(digits, &mut bytes).map(|()| bytes))
 }
 
 // The 32 bytes that 64 digits stand for.
@@ -77,11 +72,8 @@ pub fn decode_value(digits: &[u8]) -> Option<[u8; 32]>
         return None;
     }
     let mut value = [0; 32];
-    if decode_into(digits, &mut value) {
-        Some(value)
-    } else {
-        None
-    }
+    decode_into(digits, &mut value)?;
+    Some(value)
 }
 
 // The digits of bytes, in lower case.
@@ -90,8 +82,8 @@ pub fn encode(heap: Global, bytes: &[u8]) -> Result<String, AllocError>
 {
     let mut text = String::new(heap);
     for byte in bytes {
-        text.push(digit_of(*byte / 16) as char)?;
-        text.push(digit_of(*byte % 16) as char)?;
+        text.push(digit_of(byte / 16))?;
+        text.push(digit_of(byte % 16))?;
     }
     Ok(text)
 }

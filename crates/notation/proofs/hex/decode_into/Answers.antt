@@ -1,28 +1,31 @@
-use Rattle.std.proofs.Common.{◌+◌, ◌*◌, ◌<◌, length, take, drop, Some, ap, ◌∙◌, arith}
-use Rattle.std.proofs.lemmas.List.{take_more_set, take_all}
+use Rattle.std.proofs.Common.{take, Some, ap, ◌∙◌, arith}
+use Rattle.std.proofs.lemmas.List.{take_more_set, take_all, length-set}
 use Rattle.notation.specs.Hex.{bytes_from}
-use Rattle.notation.proofs.Pairs.{then_read, read_none, read_more, read_stop, read_all}
+use Rattle.notation.proofs.Pairs.{then_read, next_read, read_more, read_stop, read_all}
 use Rattle.notation.proofs.hex.decode_into.Goals as goal
 
-pub loop-i-init : goal.loop-i-init
-loop-i-init c = read_none (bytes_from c.args.digits.now)
+pub loop-byte-preserved : goal.loop-byte-preserved
+loop-byte-preserved c =
+    let out = c.loop-byte.byte-items in
+    let i = c.loop-byte.byte-index in
+    let b = c.in_ok-byte.field-0 in
+    let rest = c.in_ok-high.rest.now in
+    let cut = c.in_ok-high.ensures.cases in
+    let step = next_read c.loop-byte.digits.now c.in_ok-high.field-0-0.now rest cut.0 cut.1 (omega arith) in
+    record {
+      left = omega (arith, length-set out i b);
+      read = ap (λ t. then_read t (bytes_from rest)) (take_more_set out i b (omega arith)) ∙ read_more (take i out) c.loop-byte.digits.now rest _ _ step c.loop-byte.invariant.read b c.in_ok-byte.ensures;
+    }
 
-pub loop-i-preserved : goal.loop-i-preserved
-loop-i-preserved c =
-    let digits = c.args.digits.now in
-    let out = c.loop-i.out in
-    let i = c.loop-i.i in
-    let inside : 2 * i + 1 < length digits = omega arith in
-    ap (λ t. then_read t (bytes_from (drop (2 * (i + 1)) digits))) (take_more_set out i c.in-Some.byte (omega arith))
-    ∙ read_more digits i inside (take i out) c.in-Some.byte c.loop-i.invariant c.in-Some.ensures
-
-pub returns-in-None : goal.returns-in-None
-returns-in-None c =
-    let inside : 2 * c.loop-i.i + 1 < length c.args.digits.now = omega arith in
-    read_stop c.args.digits.now c.loop-i.i inside (take c.loop-i.i c.loop-i.out) c.loop-i.invariant c.in-None.ensures
+pub returns-in_err-byte : goal.returns-in_err-byte
+returns-in_err-byte c =
+    let cut = c.in_ok-high.ensures.cases in
+    let rest = c.in_ok-high.rest.now in
+    let step = next_read c.loop-byte.digits.now c.in_ok-high.field-0-0.now rest cut.0 cut.1 (omega arith) in
+    rw c.from_residual-in_err-byte.ensures (read_stop (take c.loop-byte.byte-index c.loop-byte.byte-items) c.loop-byte.digits.now rest _ _ step c.loop-byte.invariant.read c.in_err-byte.ensures)
 
 pub returns : goal.returns
 returns c =
-    let out = c.loop-i.out in
-    let i = c.loop-i.i in
-    read_all c.args.digits.now (take i out) (2 * i) (omega arith) c.loop-i.invariant ∙ ap Some (take_all i out (omega arith))
+    let out = c.loop-byte.byte-items in
+    let i = c.loop-byte.byte-index in
+    read_all (take i out) c.loop-byte.digits.now _ (omega arith) c.loop-byte.invariant.read ∙ ap Some (take_all i out (omega arith))
