@@ -1,5 +1,5 @@
 // What a line of a book can ask for.
-#[derive(Drop)]
+#[derive(Debug, Drop, PartialEq, Eq)]
 pub enum Command {
     Sha {
         message: Vec<u8>,
@@ -25,7 +25,7 @@ pub enum Command {
     },
 }
 
-#[derive(Clone, Copy)]
+#[derive(Clone, Copy, Debug, PartialEq, Eq)]
 pub enum LockName {
     Hash,
     Group { modulus: u64, order: u64, base: u64 },

@@ -1,11 +1,13 @@
 // What is wrong with a line that cannot be read.
-ghost use Rattle.std.specs.Prelude.{◌≡◌};
+ghost use Rattle.std.specs.Prelude.{◌≡◌, Some};
 ghost use Rattle.commands.specs.declared.fault.Fault.TheVariants.{NoMemory};
+ghost use Rattle.commands.specs.Faults.{said_of};
 
 use std::alloc::AllocError;
+use std::error::Error;
 use std::fmt;
 
-#[derive(Clone, Copy)]
+#[derive(Clone, Copy, Debug, PartialEq, Eq)]
 pub enum Fault {
     NotPrintable,
     UnknownCommand,
@@ -29,6 +31,8 @@ impl From<AllocError> for Fault {
 }
 
 impl fmt::Display for Fault {
+    ghost output = { λ fault. Some (said_of fault) };
+
     fn fmt<W: fmt::Write>(&self, f: &mut fmt::Formatter<W>) -> fmt::Result {
         f.write_str(match self {
             Fault::NotPrintable => "a character that cannot be printed",
@@ -44,3 +48,5 @@ impl fmt::Display for Fault {
         })
     }
 }
+
+impl Error for Fault {}
