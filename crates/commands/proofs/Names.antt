@@ -1,11 +1,11 @@
 -- Which commands a name leaves, and which lock.
-use Rattle.std.proofs.Common.{◌≡◌, ℕ, List, get_or, vec_items, codes, Vec, sym, refl, ap, ◌∙◌, arith}
+use Rattle.std.proofs.Common.{◌≡◌, ℕ, ◌⊎◌, inl, inr, List, get_or, vec_items, codes, Vec, sym, refl, ap, ◌∙◌, arith}
 use Rattle.std.specs.declared.alloc.Global.{Global}
 use Rattle.commands.specs.declared.command.Command.{Command}
 use Rattle.commands.specs.declared.command.Command.TheVariants.{Sha, Read, Opens, CarryKey, CarryValue}
 use Rattle.commands.specs.declared.command.LockName.{LockName}
 use Rattle.commands.specs.declared.command.LockName.TheVariants.{Hash, Group}
-use Rattle.commands.specs.Parsing.{word, behind, Ended, IsMessage, IsNumber, IsValue, IsLock, behind_lock, name_of, Takes}
+use Rattle.commands.specs.Parsing.{word, behind, Ended, IsMessage, IsNumber, IsValue, IsLock, behind_lock, name_of, Takes, Asks}
 
 -- Words that begin with other letters are not the same.
 first : {a b : List ℕ} → a ≡ b → get_or a 0 0 ≡ get_or b 0 0
@@ -33,9 +33,9 @@ module _ (line : List ℕ) where
   opens_takes (CarryKey lock key tweak) e takes = let other = first e in absurd (omega arith)
   opens_takes (CarryValue lock value tweak) e takes = let other = first e in absurd (omega arith)
 
-  pub carry_takes : (c : Command) → codes "carry" ≡ name_of c → Takes line c → (lock : LockName) × IsLock line lock × (carried : List ℕ) × (tweak : List ℕ) × IsValue (word 1 (behind_lock line lock)) carried × IsValue (word 2 (behind_lock line lock)) tweak × Ended (behind 3 (behind_lock line lock))
-  carry_takes (CarryKey lock key tweak) e takes = (lock, takes.0, key, tweak, takes.1.1, takes.1.2, takes.1.3)
-  carry_takes (CarryValue lock value tweak) e takes = (lock, takes.0, value, tweak, takes.1.1, takes.1.2, takes.1.3)
+  pub carry_takes : (c : Command) → codes "carry" ≡ name_of c → Takes line c → (lock : LockName) × IsLock line lock × (carried : List ℕ) × (tweak : List ℕ) × IsValue (word 1 (behind_lock line lock)) carried × IsValue (word 2 (behind_lock line lock)) tweak × Ended (behind 3 (behind_lock line lock)) × ((word 0 (behind_lock line lock) ≡ codes "key") ⊎ (word 0 (behind_lock line lock) ≡ codes "value"))
+  carry_takes (CarryKey lock key tweak) e takes = (lock, takes.0, key, tweak, takes.1.1, takes.1.2, takes.1.3, inl takes.1.0)
+  carry_takes (CarryValue lock value tweak) e takes = (lock, takes.0, value, tweak, takes.1.1, takes.1.2, takes.1.3, inr takes.1.0)
   carry_takes (Sha message) e takes = let other = first e in absurd (omega arith)
   carry_takes (Read channel message) e takes = let other = first e in absurd (omega arith)
   carry_takes (Opens lock key value) e takes = let other = first e in absurd (omega arith)
@@ -47,7 +47,10 @@ module _ (line : List ℕ) where
   behind_one (Group m o g) Hash a b = let other = first (sym b ∙ a.0) in absurd (omega arith)
   behind_one (Group m o g) (Group m' o' g') a b = refl
 
-  -- The numbers of a group.
-  pub group_numbers : (lock : LockName) → word 0 line ≡ codes "group" → IsLock line lock → (m : ℕ) × (o : ℕ) × (g : ℕ) × IsNumber (word 1 line) m × IsNumber (word 2 line) o × IsNumber (word 3 line) g
-  group_numbers Hash e is = let other = first (sym e ∙ is) in absurd (omega arith)
-  group_numbers (Group m o g) e is = (m, o, g, is.1, is.2, is.3)
+-- A line that begins with none of the names asks for no command.
+pub unnamed : (line w : List ℕ) → w ≡ word 0 line → (w ≡ codes "sha" → ⊥) → (w ≡ codes "read" → ⊥) → (w ≡ codes "opens" → ⊥) → (w ≡ codes "carry" → ⊥) → (c : Command) → Asks line c → ⊥
+unnamed line w first sha read opens carry (Sha message) asks = sha (first ∙ asks.0)
+unnamed line w first sha read opens carry (Read channel message) asks = read (first ∙ asks.0)
+unnamed line w first sha read opens carry (Opens lock key value) asks = opens (first ∙ asks.0)
+unnamed line w first sha read opens carry (CarryKey lock key tweak) asks = carry (first ∙ asks.0)
+unnamed line w first sha read opens carry (CarryValue lock value tweak) asks = carry (first ∙ asks.0)

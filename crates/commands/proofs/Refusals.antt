@@ -14,11 +14,6 @@ module _ {A B : Type 0} (Part : List ℕ → A → Type 0) (Whole : B → Type 0
   passed_on here line same (Err f) fault is (inr none) has =
       inr (λ b whole. let part = has b whole in let P : List ℕ → Type 0 = λ l. Part l part.0 in none part.0 (subst P (sym same) part.1))
 
--- Want of memory says nothing of the line.
-pub wanting : {B : Type 0} (Whole : B → Type 0) (r : Result B Fault) → IsErrAnd r (λ f. f ≡ NoMemory) → Reads Whole r
-wanting Whole (Ok b) is = absurd is
-wanting Whole (Err f) is = inl is
-
 -- A line with a word that asks for no command has a fault.
 pub declined : (line : List ℕ) (r : Result (Option Command) Fault) (fault : Fault) → IsErrAnd r (λ f. f ≡ fault) → passed_over line ≡ false → (fault ≡ NoMemory) ⊎ ((command : Command) → Asks line command → ⊥) → Parsed line r
 declined line (Ok answer) fault is word none = absurd is

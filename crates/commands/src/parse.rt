@@ -5,7 +5,7 @@ ghost use Rattle.commands.specs.Parsing.{name_of, Takes, Asks, Reads, Parsed};
 
 use crate::command::Command;
 use crate::fault::Fault;
-use crate::words::{Words, is_text};
+use crate::words::Words;
 use notation::lines::{is_passed_over, is_printable, without_return};
 use std::alloc::Global;
 
@@ -28,17 +28,12 @@ fn parse_command(heap: Global, line: &[u8]) -> Result<Command, Fault>
     ensures { Reads (λ c. Asks line.now c) result }
 {
     let mut words = Words::new(line);
-    let name = words.word()?;
-    if is_text(name, b"sha") {
-        parse_sha(heap, &mut words)
-    } else if is_text(name, b"read") {
-        parse_read(heap, &mut words)
-    } else if is_text(name, b"opens") {
-        parse_opens(&mut words)
-    } else if is_text(name, b"carry") {
-        parse_carry(&mut words)
-    } else {
-        Err(Fault::UnknownCommand)
+    match words.word()? {
+        b"sha" => parse_sha(heap, &mut words),
+        b"read" => parse_read(heap, &mut words),
+        b"opens" => parse_opens(&mut words),
+        b"carry" => parse_carry(&mut words),
+        _ => Err(Fault::UnknownCommand),
     }
 }
 
@@ -77,19 +72,17 @@ fn parse_carry(words: &mut Words<'_>) -> Result<Command, Fault>
     let carried = words.value()?;
     let tweak = words.value()?;
     words.end()?;
-    if is_text(what, b"key") {
-        Ok(Command::CarryKey {
+    match what {
+        b"key" => Ok(Command::CarryKey {
             lock,
             key: carried,
             tweak,
-        })
-    } else if is_text(what, b"value") {
-        Ok(Command::CarryValue {
+        }),
+        b"value" => Ok(Command::CarryValue {
             lock,
             value: carried,
             tweak,
-        })
-    } else {
-        Err(Fault::NeitherKeyNorValue)
+        }),
+        _ => Err(Fault::NeitherKeyNorValue),
     }
 }

@@ -1,5 +1,5 @@
 // The words of a line, taken one by one as what they should be.
-ghost use Rattle.std.specs.Prelude.{◌≡◌, IfOk, Decides, OnOk};
+ghost use Rattle.std.specs.Prelude.{◌≡◌, IfOk, OnOk};
 ghost use Rattle.notation.specs.Lines.{first_word, later_words};
 ghost use Rattle.commands.specs.Parsing.{Ended, IsMessage, IsNumber, IsValue, IsLock, behind_lock, Reads, NextWord};
 
@@ -9,13 +9,6 @@ use notation::hex;
 use notation::lines::split_word;
 use notation::number::number;
 use std::alloc::Global;
-
-// Whether a word is this text.
-pub fn is_text(word: &[u8], text: &[u8]) -> bool
-    ensures { Decides result (word.now ≡ text.now) }
-{
-    word == text
-}
 
 #[derive(Drop)]
 pub struct Words<'a> {
@@ -34,33 +27,23 @@ impl<'a> Words<'a> {
         ensures value { NextWord self.old.rest.now result }
         ensures rest { OnOk result (self.new.rest.now ≡ later_words self.old.rest.now) }
     {
-        match split_word(self.rest) {
-            Some((word, rest)) => {
-                self.rest = rest;
-                Ok(word)
-            }
-            None => Err(Fault::MissingWord),
-        }
+        let (word, rest) = split_word(self.rest).ok_or(Fault::MissingWord)?;
+        self.rest = rest;
+        Ok(word)
     }
 
     pub fn number(&mut self) -> Result<u64, Fault>
         ensures value { Reads (IsNumber (first_word self.old.rest.now)) result }
         ensures rest { OnOk result (self.new.rest.now ≡ later_words self.old.rest.now) }
     {
-        match number(self.word()?) {
-            Some(n) => Ok(n),
-            None => Err(Fault::NotANumber),
-        }
+        number(self.word()?).ok_or(Fault::NotANumber)
     }
 
     pub fn value(&mut self) -> Result<[u8; 32], Fault>
         ensures value { Reads (IsValue (first_word self.old.rest.now)) result }
         ensures rest { OnOk result (self.new.rest.now ≡ later_words self.old.rest.now) }
     {
-        match hex::decode_value(self.word()?) {
-            Some(value) => Ok(value),
-            None => Err(Fault::NotAValue),
-        }
+        hex::decode_value(self.word()?).ok_or(Fault::NotAValue)
     }
 
     // A message in hex; an empty one is a dash.
@@ -68,13 +51,9 @@ impl<'a> Words<'a> {
         ensures value { Reads (λ m. IsMessage (first_word self.old.rest.now) m.items) result }
         ensures rest { OnOk result (self.new.rest.now ≡ later_words self.old.rest.now) }
     {
-        let word = self.word()?;
-        if is_text(word, b"-") {
-            return Ok(Vec::new(heap));
-        }
-        match hex::decode(heap, word)? {
-            Some(message) => Ok(message),
-            None => Err(Fault::NotHex),
+        match self.word()? {
+            b"-" => Ok(Vec::new(heap)),
+            word => hex::decode(heap, word)?.ok_or(Fault::NotHex),
         }
     }
 
@@ -82,26 +61,20 @@ impl<'a> Words<'a> {
         ensures value { Reads (IsLock self.old.rest.now) result }
         ensures rest { IfOk result (λ l. self.new.rest.now ≡ behind_lock self.old.rest.now l) }
     {
-        let word = self.word()?;
-        if is_text(word, b"hash") {
-            return Ok(LockName::Hash);
+        match self.word()? {
+            b"hash" => Ok(LockName::Hash),
+            b"group" => Ok(LockName::Group {
+                modulus: self.number()?,
+                order: self.number()?,
+                base: self.number()?,
+            }),
+            _ => Err(Fault::UnknownLock),
         }
-        if !is_text(word, b"group") {
-            return Err(Fault::UnknownLock);
-        }
-        let modulus = self.number()?;
-        let order = self.number()?;
-        let base = self.number()?;
-        Ok(LockName::Group {
-            modulus,
-            order,
-            base,
-        })
     }
 
     // Nothing but blanks is left.
-    pub fn end(&mut self) -> Result<(), Fault>
-        ensures { Reads (λ _. Ended self.old.rest.now) result }
+    pub fn end(&self) -> Result<(), Fault>
+        ensures { Reads (λ _. Ended self.now.rest.now) result }
     {
         match split_word(self.rest) {
             Some(_) => Err(Fault::ExtraWord),

@@ -1,16 +1,10 @@
-use Rattle.std.proofs.Common.{ℕ, List, vec_items, Vec, refl, ap, ◌∙◌}
+use Rattle.std.proofs.Common.{ℕ, List, vec_items, Vec, ap, ◌∙◌}
 use Rattle.std.specs.declared.alloc.Global.{Global}
 use Rattle.notation.specs.Lines.{later_words}
-use Rattle.commands.specs.Parsing.{word, behind, Ended, IsMessage, IsNumber}
+use Rattle.commands.specs.Parsing.{word, behind, Ended, IsMessage}
 use Rattle.commands.proofs.Names.{read_takes}
 use Rattle.commands.proofs.Refusals.{passed_on}
 use Rattle.commands.proofs.parse.parse_read.Goals as goal
-
-pub returns-in_err-channel : goal.returns-in_err-channel
-returns-in_err-channel c =
-    let line = c.args.words.now.rest.now in
-    passed_on (λ (l : List ℕ) (n : ℕ). IsNumber (word 0 l) n) _ line line refl c.from_residual.result c.in_err-channel.field-0.0 c.from_residual.ensures.1 c.in_err-channel.ensures.value
-    (λ command is. let takes = read_takes line command is.0 is.1 in (takes.0, takes.2))
 
 pub returns-in_err-message : goal.returns-in_err-message
 returns-in_err-message c =
