@@ -45,6 +45,7 @@ fn decode_into(mut digits: &[u8], out: &mut [u8]) -> Option<()>
     requires { length digits.now ≡ 2 * length out.old }
     ensures { bytes_from digits.now ≡ option_map (λ _. out.new) result }
 {
+    // A `zip` of `iter_mut` with the pairs leaves a proof without the bytes of the row.
     for byte in out {
         let ([high, low], rest) = digits.split_first_chunk::<2>()?;
         *byte = byte_of(*high, *low)?;
