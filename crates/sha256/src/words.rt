@@ -1,6 +1,6 @@
 // The functions and constants of SHA-256 on words of 32 bits.
-ghost use Rattle.std.specs.Prelude.{◌≡◌, ◌<◌, ◌≤◌, slice_index};
-ghost use Rattle.sha256.specs.Fips.{ch, maj, big_sigma0, big_sigma1, small_sigma0, small_sigma1, constants, mixed, round, sums};
+ghost use Rattle.std.specs.Prelude.{◌≡◌, ◌/◌, ◌^◌, ◌<◌, ◌≤◌, bit_xor, slice_index};
+ghost use Rattle.sha256.specs.Fips.{rotr, ch, maj, constants, mixed, round, sums};
 
 const CONSTANTS: [u32; 64] = [
     0x428a_2f98,
@@ -81,28 +81,24 @@ fn majority(x: u32, y: u32, z: u32) -> u32
     (x & y) ^ (x & z) ^ (y & z)
 }
 
-fn big_sigma0(x: u32) -> u32
-    ensures { result ≡ big_sigma0 x }
+// Σ: a word turned right by A, by B and by C places, by xor.
+fn big_sigma<const A: u32, const B: u32, const C: u32>(x: u32) -> u32
+    requires a { (0 < A) × (A < 32) }
+    requires b { (0 < B) × (B < 32) }
+    requires c { (0 < C) × (C < 32) }
+    ensures { result ≡ bit_xor (bit_xor (rotr A x) (rotr B x)) (rotr C x) }
 {
-    x.rotate_right(2) ^ x.rotate_right(13) ^ x.rotate_right(22)
+    x.rotate_right(A) ^ x.rotate_right(B) ^ x.rotate_right(C)
 }
 
-fn big_sigma1(x: u32) -> u32
-    ensures { result ≡ big_sigma1 x }
+// σ: a word turned right by A and by B places and shifted right by C, by xor.
+fn small_sigma<const A: u32, const B: u32, const C: u32>(x: u32) -> u32
+    requires a { (0 < A) × (A < 32) }
+    requires b { (0 < B) × (B < 32) }
+    requires c { C < 32 }
+    ensures { result ≡ bit_xor (bit_xor (rotr A x) (rotr B x)) (x / 2 ^ C) }
 {
-    x.rotate_right(6) ^ x.rotate_right(11) ^ x.rotate_right(25)
-}
-
-fn small_sigma0(x: u32) -> u32
-    ensures { result ≡ small_sigma0 x }
-{
-    x.rotate_right(7) ^ x.rotate_right(18) ^ (x >> 3)
-}
-
-fn small_sigma1(x: u32) -> u32
-    ensures { result ≡ small_sigma1 x }
-{
-    x.rotate_right(17) ^ x.rotate_right(19) ^ (x >> 10)
+    x.rotate_right(A) ^ x.rotate_right(B) ^ (x >> C)
 }
 
 // The constant of a round.
@@ -118,9 +114,9 @@ pub fn mixed_word(w: &[u32; 64], t: usize) -> u32
     requires { (16 ≤ t) × (t < 64) }
     ensures { result ≡ mixed w.now t }
 {
-    small_sigma1(w[t - 2])
+    small_sigma::<17, 19, 10>(w[t - 2])
         .wrapping_add(w[t - 7])
-        .wrapping_add(small_sigma0(w[t - 15]))
+        .wrapping_add(small_sigma::<7, 18, 3>(w[t - 15]))
         .wrapping_add(w[t - 16])
 }
 
@@ -129,11 +125,11 @@ pub fn turned(s: [u32; 8], k: u32, w: u32) -> [u32; 8]
     ensures { result ≡ round s k w }
 {
     let t1 = s[7]
-        .wrapping_add(big_sigma1(s[4]))
+        .wrapping_add(big_sigma::<6, 11, 25>(s[4]))
         .wrapping_add(choose(s[4], s[5], s[6]))
         .wrapping_add(k)
         .wrapping_add(w);
-    let t2 = big_sigma0(s[0]).wrapping_add(majority(s[0], s[1], s[2]));
+    let t2 = big_sigma::<2, 13, 22>(s[0]).wrapping_add(majority(s[0], s[1], s[2]));
     [
         t1.wrapping_add(t2),
         s[0],
