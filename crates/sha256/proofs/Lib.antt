@@ -1,3 +1,3 @@
 pub mod Digests
+pub mod Rounds
 pub mod Streams
-pub mod Turns

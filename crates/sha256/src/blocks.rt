@@ -2,8 +2,7 @@
 ghost use Rattle.std.specs.Prelude.{◌≡◌, ℕ, List, [], ◌++◌, length};
 ghost use Rattle.sha256.specs.Fips.{compressed, padding, hash_value, hash};
 
-use crate::rounds::{eight_mixed, eight_own};
-use crate::words::added;
+use crate::words::{added, constant, turn, word};
 use octets::numbers::to_bytes4;
 
 // The hash value before the first block.
@@ -27,15 +26,12 @@ pub fn compress(value: [u32; 8], block: &[u8; 64]) -> [u32; 8]
     ensures { result ≡ compressed value block.now }
 {
     let mut w = [0; 64];
-    let s1 = eight_own::<0>(value, block, &mut w);
-    let s2 = eight_own::<8>(s1, block, &mut w);
-    let s3 = eight_mixed::<16>(s2, &mut w);
-    let s4 = eight_mixed::<24>(s3, &mut w);
-    let s5 = eight_mixed::<32>(s4, &mut w);
-    let s6 = eight_mixed::<40>(s5, &mut w);
-    let s7 = eight_mixed::<48>(s6, &mut w);
-    let s8 = eight_mixed::<56>(s7, &mut w);
-    added(value, s8)
+    let mut s = value;
+    for t in 0..64 {
+        w[t] = word(block, &w, t);
+        turn(&mut s, constant(t), w[t]);
+    }
+    added(value, s)
 }
 
 // The digest from the last hash value: its words in bytes.

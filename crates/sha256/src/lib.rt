@@ -6,7 +6,6 @@ ghost use Rattle.sha256.specs.Fips.{hash};
 
 mod blocks;
 pub mod hasher;
-mod rounds;
 mod words;
 
 use crate::hasher::Hasher;

@@ -1,6 +1,8 @@
 // The functions and constants of SHA-256 on words of 32 bits.
-ghost use Rattle.std.specs.Prelude.{◌≡◌, ◌/◌, ◌^◌, ◌<◌, ◌≤◌, bit_xor, slice_index};
-ghost use Rattle.sha256.specs.Fips.{rotr, ch, maj, constants, mixed, round, sums};
+ghost use Rattle.std.specs.Prelude.{◌≡◌, ◌/◌, ◌^◌, ◌<◌, ◌≤◌, bit_xor, slice_index, take};
+ghost use Rattle.sha256.specs.Fips.{rotr, ch, maj, constants, word, round, sums};
+
+use octets::numbers::read_u32;
 
 const CONSTANTS: [u32; 64] = [
     0x428a_2f98,
@@ -109,37 +111,33 @@ pub fn constant(t: usize) -> u32
     CONSTANTS[t]
 }
 
-// The schedule's word at a place from 16 on, from those before it.
-pub fn mixed_word(w: &[u32; 64], t: usize) -> u32
-    requires { (16 ≤ t) × (t < 64) }
-    ensures { result ≡ mixed w.now t }
+// The schedule's word at a place, from the block or the words before it.
+pub fn word(block: &[u8; 64], w: &[u32; 64], t: usize) -> u32
+    requires { t < 64 }
+    ensures { result ≡ word block.now (take t w.now) t }
 {
-    small_sigma::<17, 19, 10>(w[t - 2])
-        .wrapping_add(w[t - 7])
-        .wrapping_add(small_sigma::<7, 18, 3>(w[t - 15]))
-        .wrapping_add(w[t - 16])
+    if t < 16 {
+        read_u32(block, 4 * t)
+    } else {
+        small_sigma::<17, 19, 10>(w[t - 2])
+            .wrapping_add(w[t - 7])
+            .wrapping_add(small_sigma::<7, 18, 3>(w[t - 15]))
+            .wrapping_add(w[t - 16])
+    }
 }
 
 // One round over the working variables.
-pub fn turned(s: [u32; 8], k: u32, w: u32) -> [u32; 8]
-    ensures { result ≡ round s k w }
+pub fn turn(s: &mut [u32; 8], k: u32, w: u32)
+    ensures { s.new ≡ round s.old k w }
 {
-    let t1 = s[7]
-        .wrapping_add(big_sigma::<6, 11, 25>(s[4]))
-        .wrapping_add(choose(s[4], s[5], s[6]))
+    let [a, b, c, d, e, f, g, h] = *s;
+    let t1 = h
+        .wrapping_add(big_sigma::<6, 11, 25>(e))
+        .wrapping_add(choose(e, f, g))
         .wrapping_add(k)
         .wrapping_add(w);
-    let t2 = big_sigma::<2, 13, 22>(s[0]).wrapping_add(majority(s[0], s[1], s[2]));
-    [
-        t1.wrapping_add(t2),
-        s[0],
-        s[1],
-        s[2],
-        s[3].wrapping_add(t1),
-        s[4],
-        s[5],
-        s[6],
-    ]
+    let t2 = big_sigma::<2, 13, 22>(a).wrapping_add(majority(a, b, c));
+    *s = [t1.wrapping_add(t2), a, b, c, d.wrapping_add(t1), e, f, g];
 }
 
 // Two hash values added word by word.

@@ -1,5 +1,5 @@
 use Rattle.sha256.specs.Fips.{round, t1, t2}
-use Rattle.sha256.proofs.words.turned.Goals as goal
+use Rattle.sha256.proofs.words.turn.Goals as goal
 
 pub returns : goal.returns
 unfolding round t1 t2
