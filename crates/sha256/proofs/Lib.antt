@@ -1,3 +1,3 @@
 pub mod Digests
-pub mod Rounds
+pub mod Turns
 pub mod Streams

@@ -1,2 +1,3 @@
 pub mod Fips
+pub mod Rounds
 pub mod Stream

@@ -2,7 +2,8 @@
 ghost use Rattle.std.specs.Prelude.{◌≡◌, ℕ, List, [], ◌++◌, length};
 ghost use Rattle.sha256.specs.Fips.{compressed, padding, hash_value, hash};
 
-use crate::words::{added, constant, turn, word};
+use crate::rounds::eight;
+use crate::words::added;
 use octets::numbers::to_bytes4;
 
 // The hash value before the first block.
@@ -27,9 +28,9 @@ pub fn compress(value: [u32; 8], block: &[u8; 64]) -> [u32; 8]
 {
     let mut w = [0; 64];
     let mut s = value;
-    for t in 0..64 {
-        w[t] = word(block, &w, t);
-        turn(&mut s, constant(t), w[t]);
+    // One round at a time takes 1.23 times as long: 1.17 times as long as C, where this takes 0.96.
+    for i in 0..8 {
+        eight(&mut s, &mut w, block, 8 * i);
     }
     added(value, s)
 }

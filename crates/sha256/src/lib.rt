@@ -6,6 +6,7 @@ ghost use Rattle.sha256.specs.Fips.{hash};
 
 mod blocks;
 pub mod hasher;
+mod rounds;
 mod words;
 
 use crate::hasher::Hasher;

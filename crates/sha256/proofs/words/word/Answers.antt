@@ -1,6 +1,6 @@
 use Rattle.std.proofs.Common.{arith, lt-ltb, le-ltb}
 use Rattle.sha256.specs.Fips.{mixed, word}
-use Rattle.sha256.proofs.Rounds.{mixed_front}
+use Rattle.sha256.proofs.Turns.{mixed_front}
 use Rattle.sha256.proofs.words.word.Goals as goal
 
 pub returns-then-t-lt16 : goal.returns-then-t-lt16
