@@ -1,6 +1,8 @@
 // What one block of 64 bytes does to the hash value, and the hash value in bytes.
-ghost use Rattle.std.specs.Prelude.{◌≡◌, ℕ, List, [], ◌++◌, length};
-ghost use Rattle.sha256.specs.Fips.{compressed, padding, hash_value, hash};
+ghost use Rattle.std.specs.Prelude.{◌≡◌, []};
+ghost use Rattle.std.specs.List.{flat_map};
+ghost use Rattle.octets.specs.Numbers.{bytes_of};
+ghost use Rattle.sha256.specs.Fips.{compressed, hash_value};
 
 use crate::rounds::eight;
 use crate::words::added;
@@ -35,13 +37,11 @@ pub fn compress(value: [u32; 8], block: &[u8; 64]) -> [u32; 8]
     added(value, s)
 }
 
-// The digest from the last hash value: its words in bytes.
+// The words of a hash value in bytes.
 pub fn digest_of(value: [u32; 8]) -> [u8; 32]
-    ensures { (m : List ℕ) → value ≡ hash_value (m ++ padding (length m)) → result ≡ hash m }
+    ensures { result ≡ flat_map (bytes_of 4) value }
 {
     let mut out = [0; 32];
-    for i in 0..8 {
-        out[4 * i..4 * i + 4].copy_from_slice(&to_bytes4(value[i]));
-    }
+    out.copy_from_slice(value.map(to_bytes4).as_flattened());
     out
 }

@@ -3,6 +3,7 @@ ghost use Rattle.std.specs.Prelude.{◌≡◌, ◌/◌, ◌^◌, ◌<◌, ◌≤
 ghost use Rattle.sha256.specs.Fips.{rotr, ch, maj, constants, word, round, sums};
 
 use octets::numbers::read_u32;
+use std::array;
 
 const CONSTANTS: [u32; 64] = [
     0x428a_2f98,
@@ -144,14 +145,5 @@ pub fn turn(s: &mut [u32; 8], k: u32, w: u32)
 pub fn added(s: [u32; 8], t: [u32; 8]) -> [u32; 8]
     ensures { result ≡ sums s t }
 {
-    [
-        s[0].wrapping_add(t[0]),
-        s[1].wrapping_add(t[1]),
-        s[2].wrapping_add(t[2]),
-        s[3].wrapping_add(t[3]),
-        s[4].wrapping_add(t[4]),
-        s[5].wrapping_add(t[5]),
-        s[6].wrapping_add(t[6]),
-        s[7].wrapping_add(t[7]),
-    ]
+    array::from_fn(|i| s[i].wrapping_add(t[i]))
 }
