@@ -7,7 +7,7 @@ use crate::blocks::{compress, digest_of, initial_value};
 use octets::numbers::to_bytes8;
 
 // The count of bytes is kept modulo 2^64: the place in the block and the length in bits need no more.
-#[derive(Clone, Copy)]
+#[derive(Clone, Copy, Debug)]
 pub struct Hasher {
     state: [u32; 8],
     block: [u8; 64],
@@ -30,9 +30,10 @@ impl Hasher {
     pub fn absorb(&mut self, bytes: &[u8])
         ensures { (m : List ℕ) → Absorbed self.old m → Absorbed self.new (m ++ bytes.now) }
     {
-        let mut at = 0;
-        while at < bytes.len() {
-            at += self.fill(&bytes[at..]);
+        let mut rest = bytes;
+        while !rest.is_empty() {
+            let count = self.fill(rest);
+            rest = &rest[count..];
         }
     }
 
@@ -50,7 +51,7 @@ impl Hasher {
         let mut mark = [0; 64];
         mark[0] = 0x80;
         let mut ended = *self;
-        ended.absorb(&mark[0..mark_length((self.total % 64) as usize)]);
+        ended.absorb(&mark[..mark_length((self.total % 64) as usize)]);
         ended.absorb(&to_bytes8(self.total << 3));
         ended
     }
@@ -63,11 +64,10 @@ impl Hasher {
     {
         let filled = (self.total % 64) as usize;
         let count = bytes.len().min(64 - filled);
-        self.block[filled..filled + count].copy_from_slice(&bytes[0..count]);
+        self.block[filled..filled + count].copy_from_slice(&bytes[..count]);
         self.total = self.total.wrapping_add(count as u64);
         if filled + count == 64 {
-            let next = compress(self.state, &self.block);
-            self.state = next;
+            self.state = compress(self.state, &self.block);
         }
         count
     }

@@ -1,14 +1,23 @@
-use Rattle.std.proofs.Common.{◌++◌, take, arith, take-add, rules}
-use Rattle.std.proofs.lemmas.List.{append_assoc, take_rest, take_all}
+use Rattle.std.proofs.Common.{◌≡◌, ◌++◌, [], refl, take, ap, sym, ◌∙◌, rules}
+use Rattle.std.proofs.lemmas.List.{append_assoc, append-nil, nil_from_length, take_rest, take-append-drop}
 use Rattle.sha256.proofs.hasher.Hasher.absorb.Goals as goal
 
-pub loop-at-preserved : goal.loop-at-preserved
-loop-at-preserved c =
-    let bytes = c.args.bytes.now in
-    let at = c.loop-at.at in
-    let count = c.fill-at.result in
-    let took = simp take_rest at c.fill-at.ensures.took in
-    (search rules, λ m h. simp (take-add at count bytes, ← append_assoc) (took (m ++ take at bytes) (c.loop-at.invariant.1 m h)))
+pub loop-rest-init : goal.loop-rest-init
+loop-rest-init c = ([], refl, λ m h. rw append-nil h)
+
+pub loop-rest-preserved : goal.loop-rest-preserved
+loop-rest-preserved c =
+    let (front, whole, took) = c.loop-rest.invariant in
+    let count = c.fill-count.result in
+    let rest = c.loop-rest.rest.now in (
+      front ++ take count rest,
+      simp (take_rest, append_assoc, take-append-drop) whole,
+      λ m h. rw (← append_assoc) (c.fill-count.ensures.took (m ++ front) (took m h)),
+    )
 
 pub returns : goal.returns
-returns c m h = rw (take_all c.loop-at.at c.args.bytes.now (omega arith)) at (c.loop-at.invariant.1 m h)
+returns c m h =
+    let (front, whole, took) = c.loop-rest.invariant in
+    let none = nil_from_length c.loop-rest.rest.now (search rules) in
+    let all : front ≡ c.args.bytes.now = sym (append-nil front) ∙ ap (λ t. front ++ t) (sym none) ∙ whole in
+    rw (← all) (took m h)

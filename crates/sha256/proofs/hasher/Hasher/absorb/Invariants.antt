@@ -1,9 +1,10 @@
-use Rattle.std.proofs.Common.{ℕ, ◌-◌, ◌≤◌, List, ◌++◌, length, take}
+use Rattle.std.proofs.Common.{◌≡◌, ℕ, List, ◌++◌, length}
 use Rattle.sha256.specs.Stream.{Absorbed}
 use Rattle.sha256.proofs.hasher.Hasher.absorb.Given as goal
 
-abbrev pub invariant-loop-at : goal.invariant-loop-at
-invariant-loop-at l = (l.at ≤ length l.bytes) × ((m : List ℕ) → Absorbed l.initial.self m → Absorbed l.self (m ++ take l.at l.bytes))
+abbrev pub invariant-loop-rest : goal.invariant-loop-rest
+invariant-loop-rest l =
+    (front : List ℕ) × (front ++ l.rest ≡ l.bytes) × ((m : List ℕ) → Absorbed l.initial.self m → Absorbed l.self (m ++ front))
 
-abbrev pub decreases-loop-at : goal.decreases-loop-at
-decreases-loop-at l = length l.bytes - l.at
+abbrev pub decreases-loop-rest : goal.decreases-loop-rest
+decreases-loop-rest l = length l.rest

@@ -14,7 +14,7 @@ returns-then-filled-count-eq64 c =
       some = λ h. omega arith;
       within = omega arith;
       took = λ m held.
-          rw (c.compress-next.ensures, piece) (held_whole h.state h.block m h.total held (take count c.args.bytes.now) count k long (omega arith) (omega arith) (search (rules, places)));
+          rw (c.compress-self.ensures, piece) (held_whole h.state h.block m h.total held (take count c.args.bytes.now) count k long (omega arith) (omega arith) (search (rules, places)));
     }
 
 pub returns-else-filled-count-eq64 : goal.returns-else-filled-count-eq64
