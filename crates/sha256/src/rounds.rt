@@ -2,7 +2,7 @@
 ghost use Rattle.std.specs.Prelude.{ℕ, ◌+◌, ◌<◌, ◌≤◌, List};
 ghost use Rattle.sha256.specs.Rounds.{Turned};
 
-use crate::words::{constant, turn, word};
+use crate::words::{CONSTANTS, turn, word};
 
 // Round t: the schedule's next word, and the working variables turned by it.
 fn round(s: &mut [u32; 8], w: &mut [u32; 64], block: &[u8; 64], t: usize)
@@ -10,7 +10,7 @@ fn round(s: &mut [u32; 8], w: &mut [u32; 64], block: &[u8; 64], t: usize)
     ensures { (start : List ℕ) → Turned start block.now t w.old s.old → Turned start block.now (t + 1) w.new s.new }
 {
     w[t] = word(block, w, t);
-    turn(s, constant(t), w[t]);
+    turn(s, CONSTANTS[t], w[t]);
 }
 
 // Eight rounds from t on.

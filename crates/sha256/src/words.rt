@@ -1,11 +1,12 @@
 // The functions and constants of SHA-256 on words of 32 bits.
-ghost use Rattle.std.specs.Prelude.{◌≡◌, ◌/◌, ◌^◌, ◌<◌, ◌≤◌, bit_xor, slice_index, take};
-ghost use Rattle.sha256.specs.Fips.{rotr, ch, maj, constants, word, round, sums};
+ghost use Rattle.std.specs.Prelude.{◌≡◌, ◌/◌, ◌^◌, ◌<◌, ◌≤◌, bit_xor, take};
+ghost use Rattle.sha256.specs.Fips.{rotr, ch, maj, word, round, sums};
 
 use octets::numbers::read_u32;
 use std::array;
 
-const CONSTANTS: [u32; 64] = [
+// K: one for each round.
+pub const CONSTANTS: [u32; 64] = [
     0x428a_2f98,
     0x7137_4491,
     0xb5c0_fbcf,
@@ -102,14 +103,6 @@ fn small_sigma<const A: u32, const B: u32, const C: u32>(x: u32) -> u32
     ensures { result ≡ bit_xor (bit_xor (rotr A x) (rotr B x)) (x / 2 ^ C) }
 {
     x.rotate_right(A) ^ x.rotate_right(B) ^ (x >> C)
-}
-
-// The constant of a round.
-pub fn constant(t: usize) -> u32
-    requires { t < 64 }
-    ensures { result ≡ slice_index constants t }
-{
-    CONSTANTS[t]
 }
 
 // The schedule's word at a place, from the block or the words before it.
