@@ -1,4 +1,3 @@
 pub mod Arrays
-pub mod Digests
 pub mod Streams
 pub mod Turns

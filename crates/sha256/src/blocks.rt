@@ -1,28 +1,24 @@
 // What one block of 64 bytes does to the hash value, and the hash value in bytes.
-ghost use Rattle.std.specs.Prelude.{◌≡◌, []};
+ghost use Rattle.std.specs.Prelude.{◌≡◌};
 ghost use Rattle.std.specs.List.{flat_map};
 ghost use Rattle.octets.specs.Numbers.{bytes_of};
-ghost use Rattle.sha256.specs.Fips.{compressed, hash_value};
+ghost use Rattle.sha256.specs.Fips.{compressed};
 
 use crate::rounds::eight;
 use crate::words::added;
 use octets::numbers::to_bytes4;
 
 // The hash value before the first block.
-pub fn initial_value() -> [u32; 8]
-    ensures { result ≡ hash_value [] }
-{
-    [
-        0x6a09_e667,
-        0xbb67_ae85,
-        0x3c6e_f372,
-        0xa54f_f53a,
-        0x510e_527f,
-        0x9b05_688c,
-        0x1f83_d9ab,
-        0x5be0_cd19,
-    ]
-}
+pub const INITIAL: [u32; 8] = [
+    0x6a09_e667,
+    0xbb67_ae85,
+    0x3c6e_f372,
+    0xa54f_f53a,
+    0x510e_527f,
+    0x9b05_688c,
+    0x1f83_d9ab,
+    0x5be0_cd19,
+];
 
 // The hash value after one more block.
 pub fn compress(value: [u32; 8], block: &[u8; 64]) -> [u32; 8]
