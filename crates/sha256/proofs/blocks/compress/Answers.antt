@@ -1,15 +1,10 @@
-use Rattle.std.proofs.Common.{◌≡◌, ◌+◌, ◌*◌, arith}
+use Rattle.std.proofs.Common.{◌≡◌, arith}
 use Rattle.sha256.specs.Fips.{compressed}
 use Rattle.sha256.proofs.Turns.{not_turned}
 use Rattle.sha256.proofs.blocks.compress.Goals as goal
 
 pub loop-i-init : goal.loop-i-init
 loop-i-init c = not_turned c.args.value c.args.block.now _
-
-pub loop-i-preserved : goal.loop-i-preserved
-loop-i-preserved c =
-    let next : 8 * (c.loop-i.i + 1) ≡ 8 * c.loop-i.i + 8 = omega arith in
-    rw next (c.eight.ensures c.args.value c.loop-i.invariant)
 
 pub returns : goal.returns
 unfolding compressed
