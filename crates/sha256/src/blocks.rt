@@ -1,24 +1,26 @@
 // What one block of 64 bytes does to the hash value, and the hash value in bytes.
-ghost use Rattle.std.specs.Prelude.{◌≡◌};
-ghost use Rattle.std.specs.List.{flat_map};
-ghost use Rattle.octets.specs.Numbers.{bytes_of};
-ghost use Rattle.sha256.specs.Fips.{compressed};
+ghost use Rattle.std.specs.Prelude.{◌≡◌, ℕ, List, [], ◌++◌, length};
+ghost use Rattle.sha256.specs.Fips.{compressed, padding, hash_value, hash};
 
 use crate::rounds::eight;
 use crate::words::added;
 use octets::numbers::to_bytes4;
 
 // The hash value before the first block.
-pub const INITIAL: [u32; 8] = [
-    0x6a09_e667,
-    0xbb67_ae85,
-    0x3c6e_f372,
-    0xa54f_f53a,
-    0x510e_527f,
-    0x9b05_688c,
-    0x1f83_d9ab,
-    0x5be0_cd19,
-];
+pub fn initial_value() -> [u32; 8]
+    ensures { result ≡ hash_value [] }
+{
+    [
+        0x6a09_e667,
+        0xbb67_ae85,
+        0x3c6e_f372,
+        0xa54f_f53a,
+        0x510e_527f,
+        0x9b05_688c,
+        0x1f83_d9ab,
+        0x5be0_cd19,
+    ]
+}
 
 // The hash value after one more block.
 pub fn compress(value: [u32; 8], block: &[u8; 64]) -> [u32; 8]
@@ -33,9 +35,9 @@ pub fn compress(value: [u32; 8], block: &[u8; 64]) -> [u32; 8]
     added(value, s)
 }
 
-// The words of a hash value in bytes.
+// The digest from the last hash value: its words in bytes.
 pub fn digest_of(value: [u32; 8]) -> [u8; 32]
-    ensures { result ≡ flat_map (bytes_of 4) value }
+    ensures { (m : List ℕ) → value ≡ hash_value (m ++ padding (length m)) → result ≡ hash m }
 {
     let mut out = [0; 32];
     out.copy_from_slice(value.map(to_bytes4).as_flattened());

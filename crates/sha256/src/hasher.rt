@@ -3,7 +3,7 @@ ghost use Rattle.std.specs.Prelude.{◌≡◌, ℕ, ◌+◌, ◌-◌, ◌%◌, �
 ghost use Rattle.sha256.specs.Fips.{hash, padding};
 ghost use Rattle.sha256.specs.Stream.{Absorbed};
 
-use crate::blocks::{INITIAL, compress, digest_of};
+use crate::blocks::{compress, digest_of, initial_value};
 use octets::numbers::to_bytes8;
 
 // The count of bytes is kept modulo 2^64: the place in the block and the length in bits need no more.
@@ -20,7 +20,7 @@ impl Hasher {
         ensures { Absorbed result [] }
     {
         Hasher {
-            state: INITIAL,
+            state: initial_value(),
             block: [0; 64],
             total: 0,
         }

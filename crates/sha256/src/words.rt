@@ -121,6 +121,7 @@ pub fn word(block: &[u8; 64], w: &[u32; 64], t: usize) -> u32
 }
 
 // One round over the working variables.
+#[tactic(auto, unfolding(crate::specs::Fips::round, crate::specs::Fips::t1, crate::specs::Fips::t2))]
 pub fn turn(s: &mut [u32; 8], k: u32, w: u32)
     ensures { s.new ≡ round s.old k w }
 {

@@ -1,7 +1,7 @@
 use Rattle.std.proofs.Common.{refl}
 use Rattle.sha256.specs.Fips.{initial, after, hash_value}
-use Rattle.sha256.proofs.hasher.Hasher.new.Goals as goal
+use Rattle.sha256.proofs.blocks.initial_value.Goals as goal
 
 pub returns : goal.returns
 unfolding initial after hash_value
-returns c = record { value = refl; rest = refl; count = refl }
+returns c = refl
