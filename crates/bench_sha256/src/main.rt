@@ -12,9 +12,8 @@ fn chained(count: u32) -> [u8; 32]
     ensures { result ≡ chain count }
 {
     let mut value = [0; 32];
-    for n in 0..count {
-        let next = sha256(&value);
-        value = next;
+    for _ in 0..count {
+        value = sha256(&value);
     }
     value
 }
