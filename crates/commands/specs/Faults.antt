@@ -3,6 +3,7 @@ use Rattle.std.specs.Prelude.{ℕ, List, codes}
 use Rattle.commands.specs.declared.fault.Fault.{Fault}
 use Rattle.commands.specs.declared.fault.Fault.TheVariants.{NotPrintable, UnknownCommand, MissingWord, ExtraWord, NotHex, NotAValue, NotANumber, UnknownLock, NeitherKeyNorValue, NoMemory}
 
+-- A line for each fault.
 abbrev pub said_of : Fault → List ℕ
 said_of NotPrintable = codes "a character that cannot be printed"
 said_of UnknownCommand = codes "an unknown command"

@@ -1,4 +1,4 @@
-// The words of a line, taken one by one as what they should be.
+// The words of a line, taken one by one as what they should be. They are bytes, as the line is.
 ghost use Rattle.std.specs.Prelude.{◌≡◌, IfOk, OnOk};
 ghost use Rattle.notation.specs.Lines.{first_word, later_words};
 ghost use Rattle.commands.specs.Parsing.{Ended, IsMessage, IsNumber, IsValue, IsLock, behind_lock, Reads, NextWord};
@@ -10,7 +10,7 @@ use notation::lines::split_word;
 use notation::number::number;
 use std::alloc::Global;
 
-#[derive(Drop)]
+#[derive(Debug, Drop)]
 pub struct Words<'a> {
     rest: &'a [u8],
 }

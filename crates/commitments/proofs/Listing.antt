@@ -1,5 +1,5 @@
 -- The bytes of the pending payments, update by update.
-use Rattle.std.proofs.Common.{◌≡◌, ℕ, ◌+◌, ◌<◌, Bool, true, false, cond, List, [], ◌∷◌, ◌++◌, length, get_or, take, Option, sym, refl, ap, ◌∙◌}
+use Rattle.std.proofs.Common.{◌≡◌, ℕ, ◌+◌, ◌<◌, Bool, true, false, cond, not, List, [], ◌∷◌, ◌++◌, length, get_or, take, Option, sym, refl, ap, ◌∙◌}
 use Rattle.std.specs.List.{flat_map}
 use Rattle.std.proofs.lemmas.List.{append-nil, append_assoc, flat_map_more, length-append}
 use Rattle.std.proofs.lemmas.List.Sums.{sum_by-cons}
@@ -10,8 +10,8 @@ use Rattle.money.specs.declared.kind.Money.{Ghosts}
 use Rattle.logs.specs.declared.update.Update.{Update}
 use Rattle.logs.specs.declared.update.Incoming.{Incoming}
 use Rattle.logs.specs.declared.update.Update.TheVariants.{Add, Fulfil, Fail, Fee}
-use Rattle.logs.specs.Logs.{Log, mean, means, resolved, pending_one, pending_count}
-use Rattle.logs.proofs.Walks.{front_more}
+use Rattle.logs.specs.Logs.{Log, mean, means, resolved, pending, pending_count}
+use Rattle.logs.proofs.Fronts.{front_more}
 use Rattle.commitments.specs.declared.side.Side.{Side}
 use Rattle.commitments.specs.declared.side.Side.TheVariants.{Funder, Other}
 use Rattle.commitments.specs.Bytes.{payment_bytes}
@@ -47,10 +47,10 @@ module _ {M : Type 0} (kind : Ghosts M) (side : Side) (other : Log) (log : List 
       ∙ joined_append (payment_bytes terms) (listed side other (means kind (take i log))) (listed_one side other (mean kind update))
 
 -- An update lists as many payments as it leaves pending.
-listed_one_count : (side : Side) (other : Log) (update : Update Amount) → pending_one other update ≡ length (listed_one side other update)
+listed_one_count : (side : Side) (other : Log) (update : Update Amount) → cond (pending other update) 1 0 ≡ length (listed_one side other update)
 listed_one_count side other (Add id amount value expiry incoming) = by (resolved other id) (payment side id amount value expiry)
   where
-    by : (b : Bool) (p : Payment) → cond b 0 1 ≡ length (cond b [] (p ∷ []))
+    by : (b : Bool) (p : Payment) → cond (not b) 1 0 ≡ length (cond b [] (p ∷ []))
     by true p = refl
     by false p = refl
 listed_one_count side other (Fulfil id key) = refl
@@ -61,7 +61,7 @@ listed_one_count side other (Fee rate) = refl
 listed_count : (side : Side) (other log : Log) → pending_count other log ≡ length (listed side other log)
 listed_count side other [] = refl
 listed_count side other (update ∷ log) =
-    sum_by-cons (pending_one other) update log
+    sum_by-cons (λ u. cond (pending other u) 1 0) update log
     ∙ (λ i. listed_one_count side other update i + listed_count side other log i)
     ∙ sym (length-append (listed_one side other update) (listed side other log))
 

@@ -1,15 +1,18 @@
 // The bytes of a commitment into any sink, and its signature.
-ghost use Rattle.std.specs.Prelude.{◌≡◌, ◌≤◌, length};
-ghost use Rattle.logs.specs.Logs.{means};
+ghost use Rattle.std.specs.Prelude.{◌≡◌, ◌≤◌};
 ghost use Rattle.commitments.specs.Bytes.{commitment_bytes, signature_of};
-ghost use Rattle.commitments.specs.Entries.{entry_commitment};
-ghost use Rattle.commitments.specs.Headings.{headed_bytes};
+ghost use Rattle.commitments.specs.Drafts.{drafted};
+ghost use Rattle.commitments.specs.Headings.{Heads, headed_bytes};
 ghost use Rattle.commitments.specs.Sinks.{Puts};
 
-use crate::heading::{Heading, Opening, head, put_heading};
+use crate::draft::Draft;
+use crate::heading::{Heading, put_heading};
+use crate::price::price;
 use crate::put::put_log;
 use crate::side::Side;
 use crate::sink::Sink;
+use logs::gross::reckon;
+use logs::scan::rate_after;
 use logs::update::Update;
 use money::kind::Money;
 use sha256::hasher::Hasher;
@@ -22,41 +25,50 @@ pub fn put_headed<M: Money, S: Sink>(
     others: &[Update<M>],
 )
     requires { heading.now.pending ≤ 8192 }
-    ensures { Puts S.Sink.took sink.old (headed_bytes M.Money heading.now funders.now others.now) sink.new }
+    ensures { Puts S.took sink.old (headed_bytes M.Money heading.now funders.now others.now) sink.new }
 {
     put_heading(sink, heading);
     put_log(sink, Side::Funder, funders, others);
     put_log(sink, Side::Other, others, funders);
 }
 
-// All bytes of the commitment of these logs.
-pub fn put_commitment<M: Money, S: Sink>(
-    sink: &mut S,
-    number: u64,
-    holder: Side,
-    opening: &Opening<M>,
-    funders: &[Update<M>],
-    others: &[Update<M>],
-)
-    requires { (length funders.now ≤ 4096) × (length others.now ≤ 4096) }
-    ensures { Puts S.Sink.took sink.old (commitment_bytes M.Money.terms (entry_commitment M.Money.terms number holder opening.now.rate (M.Money.asset opening.now.funders) (M.Money.asset opening.now.others) (means M.Money funders.now) (means M.Money others.now))) sink.new }
-{
-    let heading = head(number, holder, opening, funders, others);
-    put_headed(sink, &heading, funders, others);
-}
+impl<M: Money> Draft<'_, M> {
+    // What stands at its head.
+    pub fn heading(&self) -> Heading<M>
+        ensures { Heads M.Money result (drafted M.Money self.now) }
+    {
+        let funders = self.funders;
+        let others = self.others;
+        let opening = self.opening;
+        let rate = rate_after(opening.rate, funders);
+        let mine = reckon(&opening.funders, funders, funders.len(), others);
+        let theirs = reckon(&opening.others, others, others.len(), funders);
+        let pending = mine.pending + theirs.pending;
+        let priced = price(rate, pending, &mine.gross);
+        Heading {
+            number: self.number,
+            holder: self.holder,
+            rate,
+            fee: priced.fee,
+            funders: priced.output,
+            others: theirs.gross,
+            pending,
+        }
+    }
 
-// The signature of a commitment: no copy of its bytes is made.
-pub fn sign<M: Money>(
-    number: u64,
-    holder: Side,
-    opening: &Opening<M>,
-    funders: &[Update<M>],
-    others: &[Update<M>],
-) -> [u8; 32]
-    requires { (length funders.now ≤ 4096) × (length others.now ≤ 4096) }
-    ensures { result ≡ signature_of M.Money.terms (entry_commitment M.Money.terms number holder opening.now.rate (M.Money.asset opening.now.funders) (M.Money.asset opening.now.others) (means M.Money funders.now) (means M.Money others.now)) }
-{
-    let mut hasher = Hasher::new();
-    put_commitment(&mut hasher, number, holder, opening, funders, others);
-    hasher.digest()
+    // Puts all its bytes into a sink.
+    pub fn put<S: Sink>(&self, sink: &mut S)
+        ensures { Puts S.took sink.old (commitment_bytes M.terms (drafted M.Money self.now)) sink.new }
+    {
+        put_headed(sink, &self.heading(), self.funders, self.others);
+    }
+
+    // Its signature: no copy of its bytes is made.
+    pub fn sign(&self) -> [u8; 32]
+        ensures { result ≡ signature_of M.terms (drafted M.Money self.now) }
+    {
+        let mut hasher = Hasher::new();
+        self.put(&mut hasher);
+        hasher.digest()
+    }
 }

@@ -2,6 +2,7 @@
 #![tactic(auto)]
 
 pub mod commitment;
+pub mod draft;
 pub mod heading;
 pub mod price;
 pub mod put;

@@ -12,7 +12,7 @@ fn fee_units(rate: u32, count: usize) -> u64
     rate as u64 * (724 + 172 * count as u64) / 1000
 }
 
-#[derive(Clone, Copy)]
+#[derive(Clone, Copy, Debug, PartialEq, Eq)]
 pub struct Priced<M> {
     pub fee: M,
     pub output: M,
@@ -21,12 +21,12 @@ pub struct Priced<M> {
 // The fee for so many pending payments, and the funder's output.
 pub fn price<M: Money>(rate: u32, count: usize, gross: &M) -> Priced<M>
     requires { count ≤ 8192 }
-    ensures fee { M.Money.asset result.fee ≡ fee_of rate count (M.Money.asset gross.now) }
-    ensures output { M.Money.asset result.output ≡ (λ k. M.Money.asset gross.now k - fee_of rate count (M.Money.asset gross.now) k) }
+    ensures fee { M.asset result.fee ≡ fee_of rate count (M.asset gross.now) }
+    ensures output { M.asset result.output ≡ (λ k. M.asset gross.now k - fee_of rate count (M.asset gross.now) k) }
 {
     let fee = M::units(fee_units(rate, count), gross);
     match gross.difference(&fee) {
         Some(output) => Priced { fee, output },
-        None => unreachable(),
+        None => unreachable!(),
     }
 }

@@ -1,4 +1,4 @@
-// The parts of a commitment, put into a sink.
+// The parts of a commitment, put into a sink. A side's log and the other's come apart, since they change places.
 ghost use Rattle.std.specs.Prelude.{[], ◌∷◌};
 ghost use Rattle.std.specs.List.{flat_map};
 ghost use Rattle.octets.specs.Numbers.{bytes_of};
@@ -13,42 +13,26 @@ use crate::sink::Sink;
 use logs::scan::is_resolved;
 use logs::update::Update;
 use money::kind::Money;
-use octets::numbers::{to_bytes2, to_bytes4, to_bytes8};
+use octets::numbers::Number;
+use std::convert::AsSlice;
 
 // The side as one byte.
 pub fn put_side<S: Sink>(sink: &mut S, side: Side)
-    ensures { Puts S.Sink.took sink.old (side_byte side ∷ []) sink.new }
+    ensures { Puts S.took sink.old (side_byte side ∷ []) sink.new }
 {
-    match side {
-        Side::Funder => sink.put(&[0]),
-        Side::Other => sink.put(&[1]),
-    }
+    sink.put(&[side as u8]);
 }
 
-// The two bytes of a number.
-pub fn put_u16<S: Sink>(sink: &mut S, number: u16)
-    ensures { Puts S.Sink.took sink.old (bytes_of 2 number) sink.new }
+// The bytes of a number.
+pub fn put_number<N: Number, S: Sink>(sink: &mut S, number: N)
+    ensures { Puts S.took sink.old (bytes_of N.width (N.value number)) sink.new }
 {
-    sink.put(&to_bytes2(number));
+    sink.put(number.to_bytes().as_slice());
 }
 
-// The four bytes of a number.
-pub fn put_u32<S: Sink>(sink: &mut S, number: u32)
-    ensures { Puts S.Sink.took sink.old (bytes_of 4 number) sink.new }
-{
-    sink.put(&to_bytes4(number));
-}
-
-// The eight bytes of a number.
-pub fn put_u64<S: Sink>(sink: &mut S, number: u64)
-    ensures { Puts S.Sink.took sink.old (bytes_of 8 number) sink.new }
-{
-    sink.put(&to_bytes8(number));
-}
-
-// The bytes of an amount, by way of a row as wide as any money.
+// The bytes of an amount, by way of a row as wide as any money, since a node has no heap.
 pub fn put_money<M: Money, S: Sink>(sink: &mut S, amount: &M)
-    ensures { Puts S.Sink.took sink.old (M.Money.terms.written (M.Money.asset amount.now)) sink.new }
+    ensures { Puts S.took sink.old (M.terms.written (M.asset amount.now)) sink.new }
 {
     let mut row = [0u8; 1024];
     let width = M::byte_width();
@@ -65,18 +49,18 @@ fn put_payment<M: Money, S: Sink>(
     value: &[u8; 32],
     expiry: u32,
 )
-    ensures { Puts S.Sink.took sink.old (payment_bytes M.Money.terms (payment side id (M.Money.asset amount.now) value.now expiry)) sink.new }
+    ensures { Puts S.took sink.old (payment_bytes M.terms (payment side id (M.asset amount.now) value.now expiry)) sink.new }
 {
     put_side(sink, side);
-    put_u16(sink, id);
+    put_number(sink, id);
     put_money(sink, amount);
     sink.put(value);
-    put_u32(sink, expiry);
+    put_number(sink, expiry);
 }
 
 // One update: a payment where it is a pending add, and nothing otherwise.
 fn put_update<M: Money, S: Sink>(sink: &mut S, side: Side, update: &Update<M>, other: &[Update<M>])
-    ensures { Puts S.Sink.took sink.old (flat_map (payment_bytes M.Money.terms) (listed_one side (means M.Money other.now) (mean M.Money update.now))) sink.new }
+    ensures { Puts S.took sink.old (flat_map (payment_bytes M.terms) (listed_one side (means M.Money other.now) (mean M.Money update.now))) sink.new }
 {
     match update {
         Update::Add {
@@ -90,15 +74,13 @@ fn put_update<M: Money, S: Sink>(sink: &mut S, side: Side, update: &Update<M>, o
                 put_payment(sink, side, *id, amount, value, *expiry);
             }
         }
-        Update::Fulfil { .. } => {}
-        Update::Fail { .. } => {}
-        Update::Fee { .. } => {}
+        _ => {}
     }
 }
 
 // The pending payments of a side, in the order of its log.
 pub fn put_log<M: Money, S: Sink>(sink: &mut S, side: Side, log: &[Update<M>], other: &[Update<M>])
-    ensures { Puts S.Sink.took sink.old (flat_map (payment_bytes M.Money.terms) (listed side (means M.Money other.now) (means M.Money log.now))) sink.new }
+    ensures { Puts S.took sink.old (flat_map (payment_bytes M.terms) (listed side (means M.Money other.now) (means M.Money log.now))) sink.new }
 {
     for update in log {
         put_update(sink, side, update, other);

@@ -1,6 +1,6 @@
 // The two sides of a commitment.
-#[derive(Clone, Copy)]
+#[derive(Clone, Copy, Debug, PartialEq, Eq)]
 pub enum Side {
-    Funder,
-    Other,
+    Funder = 0,
+    Other = 1,
 }

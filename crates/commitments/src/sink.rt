@@ -22,8 +22,8 @@ impl Sink for Hasher {
     }
 }
 
-// The front of a lent buffer: the place where the next piece goes.
-#[derive(Drop)]
+// The front of a lent buffer, with the place where the next piece goes: a node has no heap to append to.
+#[derive(Debug, Drop)]
 pub struct Front<'a> {
     pub out: &'a mut [u8],
     pub at: usize,

@@ -22,7 +22,7 @@ fn value_size(value: &[u8; 32]) -> usize
 
 // The bytes of an update: those of a payment where it is a pending add.
 fn update_size<M: Money>(update: &Update<M>, other: &[Update<M>]) -> usize
-    ensures value { (side : Side) → result ≡ length (flat_map (payment_bytes M.Money.terms) (listed_one side (means M.Money other.now) (mean M.Money update.now))) }
+    ensures value { (side : Side) → result ≡ length (flat_map (payment_bytes M.terms) (listed_one side (means M.Money other.now) (mean M.Money update.now))) }
     ensures bound { result ≤ 1063 }
 {
     match update {
@@ -33,9 +33,7 @@ fn update_size<M: Money>(update: &Update<M>, other: &[Update<M>]) -> usize
                 1 + 2 + M::byte_width() + value_size(value) + 4
             }
         }
-        Update::Fulfil { .. } => 0,
-        Update::Fail { .. } => 0,
-        Update::Fee { .. } => 0,
+        _ => 0,
     }
 }
 
@@ -52,7 +50,8 @@ fn log_size<M: Money>(log: &[Update<M>], other: &[Update<M>]) -> usize
     size
 }
 
-// The bytes of a heading and of the pending payments of both sides.
+// The bytes of a heading and of the pending payments of both sides. It takes any heading, so the bound on the logs, which a
+// draft has in its type, stands here too.
 pub fn size<M: Money>(heading: &Heading<M>, funders: &[Update<M>], others: &[Update<M>]) -> usize
     requires { (length funders.now ≤ 4096) × (length others.now ≤ 4096) }
     ensures { result ≡ length (headed_bytes M.Money heading.now funders.now others.now) }

@@ -1,34 +1,29 @@
 // Amounts in text: one number, or those of a basket joined by commas.
-ghost use Rattle.std.specs.Prelude.{◌≡◌, ℕ, List, ◌++◌, IfOk, string_bytes, codes, decimal};
+ghost use Rattle.std.specs.Prelude.{◌≡◌, ℕ, List, Some, refl};
 ghost use Rattle.money.specs.Amounts.{Amount};
+ghost use Rattle.money.specs.Texts.{satoshi_text, basket_text};
 
 use money::basket::Basket;
 use money::kind::Money;
 use money::satoshi::Satoshi;
-use std::alloc::{AllocError, Global};
+use std::fmt;
 
-pub trait Show: Money {
+// Money that prints what it means.
+pub trait Show: Money + fmt::Display {
     // The text of an amount.
     ghost shown: { Amount → List ℕ };
 
-    fn show(&self, heap: Global) -> Result<String, AllocError>
-        ensures { IfOk result (λ text. string_bytes text ≡ shown (Self.Money.asset self.now)) };
+    ghost prints: { (x : Self) → Self.Display.output x ≡ Some (shown (Self.Money.asset x)) };
 }
 
 impl Show for Satoshi {
-    ghost shown = { λ f. decimal (f 0) };
+    ghost shown = { satoshi_text };
 
-    fn show(&self, heap: Global) -> Result<String, AllocError> {
-        let value = self.value();
-        format!(in heap; "{value}")
-    }
+    ghost prints = { λ x. refl };
 }
 
 impl Show for Basket {
-    ghost shown = { λ f. decimal (f 0) ++ (codes "," ++ (decimal (f 1) ++ (codes "," ++ (decimal (f 2) ++ (codes "," ++ decimal (f 3)))))) };
+    ghost shown = { basket_text };
 
-    fn show(&self, heap: Global) -> Result<String, AllocError> {
-        let [first, second, third, fourth] = self.amounts();
-        format!(in heap; "{first},{second},{third},{fourth}")
-    }
+    ghost prints = { λ x. refl };
 }

@@ -1,6 +1,65 @@
-// An answer in words.
-#[derive(Drop)]
-pub enum Answer {
-    Taken(String),
-    Declined(String),
+// The answer to a question: a text, or why it is declined.
+ghost use Rattle.std.specs.Prelude.{◌≡◌, Some};
+ghost use Rattle.messages.specs.Faults.{message_refusal};
+ghost use Rattle.desk.specs.Answers.{decline_text};
+ghost use Rattle.desk.specs.declared.answer.Decline.TheVariants.{Refused, NotMade, NoMemory};
+
+use messages::fault::MessageFault;
+use refusals::reason::Reason;
+use refusals::refusal::Refusal;
+use std::alloc::AllocError;
+use std::error::Error;
+use std::fmt;
+
+pub type Answer = Result<String, Decline>;
+
+#[derive(Clone, Copy, Debug, PartialEq, Eq)]
+pub enum Decline {
+    // A message is refused.
+    Refused(Refusal),
+    // A lock cannot be made, where no channel is concerned.
+    NotMade(Reason),
+    // Memory is wanting: no answer to the question.
+    NoMemory,
 }
+
+impl From<MessageFault> for Decline {
+    ghost from_gives = { λ fault decline. decline ≡ Refused (message_refusal fault) };
+
+    fn from(fault: MessageFault) -> Decline {
+        Decline::Refused(Refusal::from(fault))
+    }
+}
+
+impl From<Reason> for Decline {
+    ghost from_gives = { λ reason decline. decline ≡ NotMade reason };
+
+    fn from(reason: Reason) -> Decline {
+        Decline::NotMade(reason)
+    }
+}
+
+impl From<AllocError> for Decline {
+    ghost from_gives = { λ _ decline. decline ≡ NoMemory };
+
+    fn from(_error: AllocError) -> Decline {
+        Decline::NoMemory
+    }
+}
+
+impl fmt::Display for Decline {
+    ghost output = { λ decline. Some (decline_text decline) };
+
+    fn fmt<W: fmt::Write>(&self, f: &mut fmt::Formatter<W>) -> fmt::Result {
+        match self {
+            Decline::Refused(refusal) => write!(f, "{refusal}"),
+            Decline::NotMade(reason) => {
+                let number = reason.number();
+                write!(f, "declined {number}")
+            }
+            Decline::NoMemory => f.write_str("memory is wanting"),
+        }
+    }
+}
+
+impl Error for Decline {}

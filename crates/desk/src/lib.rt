@@ -6,5 +6,4 @@ pub mod answer;
 pub mod named_lock;
 pub mod pages;
 pub mod questions;
-pub mod refusal;
 pub mod text;

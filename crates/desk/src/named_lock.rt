@@ -1,5 +1,6 @@
 // The lock that a book names: the hash lock, or a group.
 ghost use Rattle.std.specs.Prelude.{◌≡◌, MatchResult, refl};
+ghost use Rattle.refusals.specs.declared.reason.Reason.TheVariants.{OutOfBounds};
 ghost use Rattle.locks.specs.Turns.{group_carries};
 ghost use Rattle.desk.specs.NamedLocks.{meaning_of, Makeable};
 ghost use Rattle.desk.specs.Locked.{lock_meaning};
@@ -9,32 +10,33 @@ use commands::command::LockName;
 use locks::group_lock::GroupLock;
 use locks::hash_lock::HashLock;
 use locks::lock::Lock;
+use refusals::reason::Reason;
 
-#[derive(Clone, Copy)]
+#[derive(Clone, Copy, Debug, PartialEq, Eq)]
 pub enum NamedLock {
     Hash(HashLock),
     Group(GroupLock),
 }
 
-impl NamedLock {
-    // The lock of a name, refused with 5 where its group is not allowed.
-    pub fn new(name: LockName) -> Result<NamedLock, u8>
-        ensures { MatchResult result (λ l. Makeable name × (lock_meaning l ≡ meaning_of name)) (λ e. (e ≡ 5) × (Makeable name → ⊥)) }
-    {
+impl TryFrom<LockName> for NamedLock {
+    type Error = Reason;
+
+    // The lock of a name, out of bounds where its group is not allowed.
+    ghost try_from_gives = { λ name answer. MatchResult answer (λ l. Makeable name × (lock_meaning l ≡ meaning_of name)) (λ e. (e ≡ OutOfBounds) × (Makeable name → ⊥)) };
+
+    fn try_from(name: LockName) -> Result<NamedLock, Reason> {
         match name {
             LockName::Hash => Ok(NamedLock::Hash(HashLock)),
             LockName::Group {
                 modulus,
                 order,
                 base,
-            } => {
-                let group = GroupLock::new(modulus, order, base)?;
-                Ok(NamedLock::Group(group))
-            }
+            } => GroupLock::new(modulus, order, base).map(NamedLock::Group),
         }
     }
 }
 
+// Each method asks the kind of lock anew: the gate refuses a function that hands out a `dyn Lock`.
 impl Lock for NamedLock {
     ghost meaning = { lock_meaning };
 

@@ -1,12 +1,12 @@
 // The pages of a book, and the statement at its end.
-ghost use Rattle.std.specs.Prelude.{◌≡◌, ◌+◌, IfOk, string_bytes};
+ghost use Rattle.std.specs.Prelude.{◌≡◌, ◌+◌, Some};
 ghost use Rattle.commands.specs.Parsing.{name_of};
 ghost use Rattle.desk.specs.Answers.{page_text};
 ghost use Rattle.desk.specs.Statements.{capped, Entered, statement_text};
 
 use crate::answer::Answer;
 use commands::command::Command;
-use std::alloc::{AllocError, Global};
+use std::fmt;
 
 // The name of a command.
 pub fn name(command: &Command) -> &'static str
@@ -16,23 +16,36 @@ pub fn name(command: &Command) -> &'static str
         Command::Sha { .. } => "sha",
         Command::Read { .. } => "read",
         Command::Opens { .. } => "opens",
-        Command::CarryKey { .. } => "carry",
-        Command::CarryValue { .. } => "carry",
+        Command::CarryKey { .. } | Command::CarryValue { .. } => "carry",
     }
 }
 
 // A page: its number, the command's name and the answer.
-pub fn page(heap: Global, number: u64, name: &str, answer: &Answer) -> Result<String, AllocError>
-    ensures { IfOk result (λ text. string_bytes text ≡ page_text number name.now answer.now) }
-{
-    match answer {
-        Answer::Taken(text) => format!(in heap; "{number} {name}: {text}"),
-        Answer::Declined(text) => format!(in heap; "{number} {name}: {text}"),
+#[derive(Clone, Copy, Debug, PartialEq, Eq)]
+pub struct Page<'a> {
+    pub number: u64,
+    pub name: &'a str,
+    pub answer: &'a Answer,
+}
+
+impl fmt::Display for Page<'_> {
+    ghost output = { λ page. Some (page_text page.number page.name.now page.answer.now) };
+
+    fn fmt<W: fmt::Write>(&self, f: &mut fmt::Formatter<W>) -> fmt::Result {
+        let Page {
+            number,
+            name,
+            answer,
+        } = self;
+        match answer {
+            Ok(text) => write!(f, "{number} {name}: {text}"),
+            Err(decline) => write!(f, "{number} {name}: {decline}"),
+        }
     }
 }
 
 // How many pages were taken and declined.
-#[derive(Clone, Copy)]
+#[derive(Clone, Copy, Debug, PartialEq, Eq)]
 pub struct Statement {
     taken: u64,
     declined: u64,
@@ -53,8 +66,8 @@ impl Statement {
         ensures { Entered self.old answer.now self.new }
     {
         match answer {
-            Answer::Taken(_) => self.taken = self.taken.saturating_add(1),
-            Answer::Declined(_) => self.declined = self.declined.saturating_add(1),
+            Ok(_) => self.taken = self.taken.saturating_add(1),
+            Err(_) => self.declined = self.declined.saturating_add(1),
         }
     }
 
@@ -64,14 +77,19 @@ impl Statement {
     {
         self.taken.saturating_add(self.declined)
     }
+}
 
-    // The line that ends the pages.
-    pub fn text(&self, heap: Global) -> Result<String, AllocError>
-        ensures { IfOk result (λ text. string_bytes text ≡ statement_text self.now) }
-    {
+// The line that ends the pages.
+impl fmt::Display for Statement {
+    ghost output = { λ statement. Some (statement_text statement) };
+
+    fn fmt<W: fmt::Write>(&self, f: &mut fmt::Formatter<W>) -> fmt::Result {
         let pages = self.pages();
         let taken = self.taken;
         let declined = self.declined;
-        format!(in heap; "book: {pages} pages, {taken} taken, {declined} declined, 0 not made")
+        write!(
+            f,
+            "book: {pages} pages, {taken} taken, {declined} declined, 0 not made"
+        )
     }
 }

@@ -9,3 +9,5 @@ mod locks_tests;
 mod messages_tests;
 #[cfg(test)]
 mod money_tests;
+#[cfg(test)]
+mod refusals_tests;

@@ -37,10 +37,7 @@ fn a_tweak_carries_both(rt: HostRuntime) -> Result<(), Fail> {
 }
 
 fn refused(modulus: u64, order: u64, base: u64) -> bool {
-    match GroupLock::new(modulus, order, base) {
-        Ok(_) => false,
-        Err(number) => number == 5,
-    }
+    GroupLock::new(modulus, order, base).is_err_and(|reason| reason.number() == 5)
 }
 
 #[test]

@@ -5,7 +5,8 @@ use messages::reader::read;
 use messages::writer::{write_add, write_fulfil};
 use money::basket::Basket;
 use money::satoshi::Satoshi;
-use octets::places::put_u16;
+use octets::places::put_number;
+use refusals::refusal::Refusal;
 use std::process::Abort;
 use std::test::Fail;
 
@@ -25,7 +26,7 @@ fn length_of(number: u16) -> Option<usize> {
 
 fn reads_one_length(rt: &impl Abort, number: u16) {
     let mut bytes = [0u8; 201];
-    put_u16(&mut bytes, 0, number);
+    put_number(&mut bytes, 0, number);
     for length in 0..201usize {
         let read = read::<Satoshi>(9, &bytes[0..length]);
         assert!(rt; read.is_ok() == (length >= 2 && length_of(number) == Some(length)));
@@ -43,22 +44,17 @@ fn a_type_has_one_length(rt: HostRuntime) {
 
 #[test]
 fn a_damaged_message_is_refused_with_four(rt: HostRuntime) -> Result<(), Fail> {
-    match read::<Satoshi>(7, &[0, 128]) {
-        Ok(_) => Err(Fail::new("read")),
-        Err(fault) => {
-            let refusal = fault.refusal();
-            assert!(rt; refusal.number == 4 && refusal.layer == 1 && refusal.channel == 7);
-            Ok(())
-        }
-    }
+    let fault = MessageFault::Malformed { channel: 7 };
+    assert!(rt; read::<Satoshi>(7, &[0, 128]) == Err(fault));
+    let Refusal { reason, channel } = Refusal::from(fault);
+    assert!(rt; reason.number() == 4 && reason.layer().number() == 1 && channel == 7);
+    Ok(())
 }
 
 #[test]
 fn an_add_of_a_basket_is_wider(rt: HostRuntime) -> Result<(), Fail> {
     let mut out = [7u8; 100];
-    let Some(amount) = Basket::new([5, 0, 0, 12]) else {
-        return Err(Fail::new("a value within the limit is refused"));
-    };
+    let amount = Basket::new([5, 0, 0, 12]).ok_or("a value within the limit is refused")?;
     let length = write_add(&mut out, 3, &amount, &[9; 32], 500);
     assert!(rt; length == 72);
     assert!(rt; out[3] == 3 && out[11] == 5 && out[35] == 12 && out[36] == 9);
@@ -69,15 +65,9 @@ fn an_add_of_a_basket_is_wider(rt: HostRuntime) -> Result<(), Fail> {
 }
 
 #[test]
-fn a_fulfil_hands_out_its_key(rt: HostRuntime) -> Result<(), Fail> {
+fn a_fulfil_hands_out_its_key(rt: HostRuntime) {
     let mut out = [0u8; 36];
     let key = [5u8; 32];
     let _ = write_fulfil(&mut out, 258, &key);
-    match read::<Satoshi>(0, &out) {
-        Ok(Message::Fulfil { id, key: read }) => {
-            assert!(rt; id == 258 && *read == key);
-            Ok(())
-        },
-        _ => Err(Fail::new("not a fulfil")),
-    }
+    assert!(rt; read::<Satoshi>(0, &out) == Ok(Message::Fulfil { id: 258, key: &key }));
 }

@@ -1,16 +1,17 @@
 // The group lock: powers of a base, by a modulus and an order.
 ghost use Rattle.std.specs.Prelude.{◌≡◌, ◌%◌, ◌^◌, ◌<◌, ◌≤◌, MatchResult};
+ghost use Rattle.refusals.specs.declared.reason.Reason.TheVariants.{OutOfBounds};
 ghost use Rattle.locks.specs.Figures.{Worked};
 ghost use Rattle.locks.specs.Group.{Allowed, number_in, as_value, group_lock};
 ghost use Rattle.locks.specs.Turns.{group_carries};
 
 use crate::lock::Lock;
 use crate::power::power;
-use octets::numbers::read_u64;
-use octets::places::put_u64;
-use octets::values::same32;
+use octets::numbers::Number;
+use octets::places::put_number;
+use refusals::reason::Reason;
 
-#[derive(Clone, Copy)]
+#[derive(Clone, Copy, Debug, PartialEq, Eq)]
 pub struct GroupLock {
     modulus: u64,
     order: u64,
@@ -22,21 +23,21 @@ pub struct GroupLock {
 }
 
 impl GroupLock {
-    // A group, refused with 5 where its numbers are not allowed.
-    pub fn new(modulus: u64, order: u64, base: u64) -> Result<GroupLock, u8>
-        ensures { MatchResult result (λ l. Allowed modulus order base × (l.modulus ≡ modulus) × (l.order ≡ order) × (l.base ≡ base)) (λ e. (e ≡ 5) × (Allowed modulus order base → ⊥)) }
+    // A group, out of bounds where its numbers are not allowed. They come apart, as a book names them.
+    pub fn new(modulus: u64, order: u64, base: u64) -> Result<GroupLock, Reason>
+        ensures { MatchResult result (λ l. Allowed modulus order base × (l.modulus ≡ modulus) × (l.order ≡ order) × (l.base ≡ base)) (λ e. (e ≡ OutOfBounds) × (Allowed modulus order base → ⊥)) }
     {
         if modulus < 3 || modulus >= 0x8000_0000 {
-            return Err(5);
+            return Err(Reason::OutOfBounds);
         }
         if order < 2 || order >= 0x8000_0000 {
-            return Err(5);
+            return Err(Reason::OutOfBounds);
         }
         if base < 2 || base >= modulus {
-            return Err(5);
+            return Err(Reason::OutOfBounds);
         }
         if power(base, order, modulus) != 1 {
-            return Err(5);
+            return Err(Reason::OutOfBounds);
         }
         Ok(GroupLock {
             modulus,
@@ -50,7 +51,7 @@ impl GroupLock {
 fn number_in(bytes: &[u8; 32]) -> u64
     ensures { result ≡ number_in bytes.now }
 {
-    read_u64(bytes, 24)
+    u64::read(bytes, 24)
 }
 
 // The number behind 24 zero bytes.
@@ -58,7 +59,7 @@ fn as_value(number: u64) -> [u8; 32]
     ensures { result ≡ as_value number }
 {
     let mut bytes = [0; 32];
-    put_u64(&mut bytes, 24, number);
+    put_number(&mut bytes, 24, number);
     bytes
 }
 
@@ -69,7 +70,7 @@ impl Lock for GroupLock {
 
     fn opens(&self, key: &[u8; 32], value: &[u8; 32]) -> bool {
         let exponent = number_in(key) % self.order;
-        same32(value, &as_value(power(self.base, exponent, self.modulus)))
+        *value == as_value(power(self.base, exponent, self.modulus))
     }
 
     fn carry_value(&self, value: &[u8; 32], tweak: &[u8; 32]) -> [u8; 32] {

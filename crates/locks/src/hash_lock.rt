@@ -3,10 +3,9 @@ ghost use Rattle.std.specs.Prelude.{refl};
 ghost use Rattle.locks.specs.Meaning.{hash_lock};
 
 use crate::lock::Lock;
-use octets::values::same32;
 use sha256::sha256;
 
-#[derive(Clone, Copy)]
+#[derive(Clone, Copy, Debug, PartialEq, Eq)]
 pub struct HashLock;
 
 impl Lock for HashLock {
@@ -15,7 +14,7 @@ impl Lock for HashLock {
     ghost carrying = { λ lock key tweak _ _. refl };
 
     fn opens(&self, key: &[u8; 32], value: &[u8; 32]) -> bool {
-        same32(value, &sha256(key))
+        sha256(key) == *value
     }
 
     fn carry_value(&self, value: &[u8; 32], _tweak: &[u8; 32]) -> [u8; 32] {

@@ -1,3 +1,2 @@
 pub mod Fronts
 pub mod Literal
-pub mod Walks

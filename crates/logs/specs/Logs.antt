@@ -1,5 +1,6 @@
 -- Logs of updates, with amounts as whole numbers.
-use Rattle.std.specs.Prelude.{ℕ, Bool, false, cond, ◌||◌, List, [], ◌∷◌, map, Some, None, fold, sum_by, Option, ◌==◌}
+use Rattle.std.specs.Prelude.{ℕ, Bool, false, cond, ◌||◌, List, [], ◌∷◌, map, Some, None, fold, count_by, not, Option, ◌==◌}
+use Rattle.std.specs.List.{list_any}
 use Rattle.money.specs.Amounts.{Amount}
 use Rattle.money.specs.declared.kind.Money.{Ghosts}
 use Rattle.logs.specs.declared.update.Update.{Update}
@@ -32,30 +33,25 @@ fails id (Fulfil i key) = false
 fails id (Fail i) = i == id
 fails id (Fee rate) = false
 
--- Some update of a log passes a test.
-abbrev pub some_of : (Update Amount → Bool) → Log → Bool
-some_of test [] = false
-some_of test (update ∷ log) = test update || some_of test log
-
 -- A log has fulfilled, or failed, the add of the other log with an id; resolved is one or the other.
 abbrev pub fulfilled : Log → ℕ → Bool
-fulfilled log id = some_of (fulfils id) log
+fulfilled log id = list_any (fulfils id) log
 
 abbrev pub failed : Log → ℕ → Bool
-failed log id = some_of (fails id) log
+failed log id = list_any (fails id) log
 
 abbrev pub resolved : Log → ℕ → Bool
 resolved log id = fulfilled log id || failed log id
 
--- An add counts as one pending unless the other log resolves it.
-abbrev pub pending_one : Log → Update Amount → ℕ
-pending_one other (Add id amount value expiry incoming) = cond (resolved other id) 0 1
-pending_one other (Fulfil id key) = 0
-pending_one other (Fail id) = 0
-pending_one other (Fee rate) = 0
+-- An add is pending unless the other log resolves it.
+abbrev pub pending : Log → Update Amount → Bool
+pending other (Add id amount value expiry incoming) = not (resolved other id)
+pending other (Fulfil id key) = false
+pending other (Fail id) = false
+pending other (Fee rate) = false
 
 abbrev pub pending_count : Log → Log → ℕ
-pending_count other log = sum_by (pending_one other) log
+pending_count other log = count_by (pending other) log
 
 -- The amount of the add with an id, of an update and of a log.
 abbrev pub amount_if : ℕ → Update Amount → Option Amount

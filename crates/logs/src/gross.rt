@@ -1,8 +1,8 @@
-// What a side owns before the commitment fee, and how many of its adds are pending.
+// What a side owns before the commitment fee, and how many of its adds are pending. A side's log and the other's are handed
+// on apart, since they change places from one side to the other.
 ghost use Rattle.std.specs.Prelude.{◌≡◌, ◌≤◌, length, take};
-ghost use Rattle.std.specs.Option.{option_map};
-ghost use Rattle.logs.specs.Gross.{lessened, raised, credited, moved, walked, LiteralGross};
-ghost use Rattle.logs.specs.Logs.{mean, means, pending_one, pending_count};
+ghost use Rattle.logs.specs.Gross.{lessened, raised, moved, walked, LiteralGross};
+ghost use Rattle.logs.specs.Logs.{mean, means, pending, pending_count};
 
 use crate::scan::{amount_of, has, is_resolved};
 use crate::update::{Resolution, Update};
@@ -10,37 +10,21 @@ use money::kind::Money;
 
 // An amount taken off; what the money refuses is left out.
 fn lessen<M: Money>(held: M, amount: &M) -> M
-    ensures { M.Money.asset result ≡ lessened M.Money.terms (M.Money.asset held) (M.Money.asset amount.now) }
+    ensures { M.asset result ≡ lessened M.terms (M.asset held) (M.asset amount.now) }
 {
-    match held.difference(amount) {
-        Some(less) => less,
-        None => held,
-    }
+    held.difference(amount).unwrap_or(held)
 }
 
 // An amount put on; what the money refuses is left out.
 fn raise<M: Money>(held: M, amount: &M) -> M
-    ensures { M.Money.asset result ≡ raised M.Money.terms (M.Money.asset held) (M.Money.asset amount.now) }
+    ensures { M.asset result ≡ raised M.terms (M.asset held) (M.asset amount.now) }
 {
-    match held.sum(amount) {
-        Some(more) => more,
-        None => held,
-    }
-}
-
-// An amount put on, where there is one.
-fn credit<M: Money>(held: M, amount: Option<M>) -> M
-    ensures { M.Money.asset result ≡ credited M.Money.terms (M.Money.asset held) (option_map M.Money.asset amount) }
-{
-    match amount {
-        Some(amount) => raise(held, &amount),
-        None => held,
-    }
+    held.sum(amount).unwrap_or(held)
 }
 
 // One update of the side's log.
 fn step<M: Money>(held: M, update: &Update<M>, other: &[Update<M>]) -> M
-    ensures { M.Money.asset result ≡ moved M.Money.terms (means M.Money other.now) (M.Money.asset held) (mean M.Money update.now) }
+    ensures { M.asset result ≡ moved M.terms (means M.Money other.now) (M.asset held) (mean M.Money update.now) }
 {
     match update {
         Update::Add { id, amount, .. } => {
@@ -50,26 +34,46 @@ fn step<M: Money>(held: M, update: &Update<M>, other: &[Update<M>]) -> M
                 lessen(held, amount)
             }
         }
-        Update::Fulfil { id, .. } => credit(held, amount_of(other, *id)),
-        Update::Fail { .. } => held,
-        Update::Fee { .. } => held,
+        Update::Fulfil { id, .. } => {
+            amount_of(other, *id).map_or(held, |amount| raise(held, &amount))
+        }
+        _ => held,
     }
 }
 
-// One for an add that the other log does not resolve.
-fn pending_one<M: Money>(update: &Update<M>, other: &[Update<M>]) -> usize
-    ensures value { result ≡ pending_one (means M.Money other.now) (mean M.Money update.now) }
-    ensures bound { result ≤ 1 }
+// Whether an update is an add that the other log does not resolve.
+fn is_pending<M: Money>(update: &Update<M>, other: &[Update<M>]) -> bool
+    ensures { result ≡ pending (means M.Money other.now) (mean M.Money update.now) }
 {
     match update {
-        Update::Add { id, .. } => { if is_resolved(other, *id) { 0 } else { 1 } }
-        Update::Fulfil { .. } => 0,
-        Update::Fail { .. } => 0,
-        Update::Fee { .. } => 0,
+        Update::Add { id, .. } => !is_resolved(other, *id),
+        _ => false,
     }
 }
 
-#[derive(Clone, Copy)]
+// The walk over a log from a share.
+fn walk<M: Money>(share: M, log: &[Update<M>], other: &[Update<M>]) -> M
+    ensures { M.asset result ≡ walked M.terms (means M.Money other.now) (M.asset share) (means M.Money log.now) }
+{
+    // The clause of a fold says nothing of what the values mean, so the loop stands here.
+    let mut held = share;
+    for update in log {
+        held = step(held, update, other);
+    }
+    held
+}
+
+// How many adds of a log are pending.
+fn pending_count<M: Money>(log: &[Update<M>], other: &[Update<M>]) -> usize
+    ensures value { result ≡ pending_count (means M.Money other.now) (means M.Money log.now) }
+    ensures bound { result ≤ length log.now }
+{
+    log.iter()
+        .filter(|update| is_pending(update, other))
+        .count()
+}
+
+#[derive(Clone, Copy, Debug, PartialEq, Eq)]
 pub struct Reckoned<M> {
     pub gross: M,
     pub pending: usize,
@@ -82,25 +86,20 @@ pub fn reckon<M: Money>(
     count: usize,
     other: &[Update<M>],
 ) -> Reckoned<M>
-    ensures gross { M.Money.asset result.gross ≡ walked M.Money.terms (means M.Money other.now) (M.Money.asset share.now) (means M.Money (take count log.now)) }
+    ensures gross { M.asset result.gross ≡ walked M.terms (means M.Money other.now) (M.asset share.now) (means M.Money (take count log.now)) }
     ensures pending { result.pending ≡ pending_count (means M.Money other.now) (means M.Money (take count log.now)) }
     ensures bound { result.pending ≤ length log.now }
 {
-    let mut gross = *share;
-    let mut pending = 0;
-    for (index, update) in log.iter().enumerate() {
-        if index >= count {
-            return Reckoned { gross, pending };
-        }
-        gross = step(gross, update, other);
-        pending += pending_one(update, other);
+    let front = &log[..count.min(log.len())];
+    Reckoned {
+        gross: walk(*share, front, other),
+        pending: pending_count(front, other),
     }
-    Reckoned { gross, pending }
 }
 
 // Carries the law that the walk is the literal sum, for every kind of money.
 pub fn the_walk_is_the_sum<M: Money>() -> u8
-    ensures { LiteralGross M.Money.terms }
+    ensures { LiteralGross M.terms }
 {
     0
 }

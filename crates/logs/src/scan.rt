@@ -1,7 +1,8 @@
 // Looking through a log: what is resolved, which amount an id has, and the rate.
 ghost use Rattle.std.specs.Prelude.{◌≡◌, ◌||◌};
+ghost use Rattle.std.specs.List.{list_any};
 ghost use Rattle.std.specs.Option.{option_map};
-ghost use Rattle.logs.specs.Logs.{mean, means, some_of, resolved, amount_if, amount_of, rate_by, rate_after};
+ghost use Rattle.logs.specs.Logs.{mean, means, resolved, amount_if, amount_of, rate_by, rate_after};
 ghost use Rattle.logs.specs.Resolutions.{resolves};
 
 use crate::update::{Resolution, Update};
@@ -20,7 +21,7 @@ fn resolves<M: Money>(update: &Update<M>, way: Resolution, wanted: u16) -> bool
 
 // Whether a log resolves the add with an id in this way.
 pub fn has<M: Money>(log: &[Update<M>], way: Resolution, id: u16) -> bool
-    ensures { result ≡ some_of (resolves way id) (means M.Money log.now) }
+    ensures { result ≡ list_any (resolves way id) (means M.Money log.now) }
 {
     for update in log {
         if resolves(update, way, id) {
@@ -39,19 +40,17 @@ pub fn is_resolved<M: Money>(log: &[Update<M>], id: u16) -> bool
 
 // The amount of an update, if it is the add with an id.
 fn amount_if<M: Money>(update: &Update<M>, wanted: u16) -> Option<M>
-    ensures { option_map M.Money.asset result ≡ amount_if wanted (mean M.Money update.now) }
+    ensures { option_map M.asset result ≡ amount_if wanted (mean M.Money update.now) }
 {
     match update {
-        Update::Add { id, amount, .. } => { if *id == wanted { Some(*amount) } else { None } }
-        Update::Fulfil { .. } => None,
-        Update::Fail { .. } => None,
-        Update::Fee { .. } => None,
+        Update::Add { id, amount, .. } if *id == wanted => Some(*amount),
+        _ => None,
     }
 }
 
 // The amount of the add with an id.
 pub fn amount_of<M: Money>(log: &[Update<M>], id: u16) -> Option<M>
-    ensures { option_map M.Money.asset result ≡ amount_of (means M.Money log.now) id }
+    ensures { option_map M.asset result ≡ amount_of (means M.Money log.now) id }
 {
     for update in log {
         if let Some(amount) = amount_if(update, id) {
@@ -67,9 +66,7 @@ fn rate_by<M: Money>(rate: u32, update: &Update<M>) -> u32
 {
     match update {
         Update::Fee { rate: next } => *next,
-        Update::Add { .. } => rate,
-        Update::Fulfil { .. } => rate,
-        Update::Fail { .. } => rate,
+        _ => rate,
     }
 }
 
@@ -77,9 +74,6 @@ fn rate_by<M: Money>(rate: u32, update: &Update<M>) -> u32
 pub fn rate_after<M: Money>(opening: u32, log: &[Update<M>]) -> u32
     ensures { result ≡ rate_after opening (means M.Money log.now) }
 {
-    let mut rate = opening;
-    for update in log {
-        rate = rate_by(rate, update);
-    }
-    rate
+    log.iter()
+        .fold(opening, |rate, update| rate_by(rate, update))
 }

@@ -1,5 +1,5 @@
 // Updates of a log, and entries of a list.
-#[derive(Clone, Copy)]
+#[derive(Clone, Copy, Debug, PartialEq, Eq)]
 pub enum Update<M> {
     // A payment; one that is forwarded names the incoming add.
     Add {
@@ -22,7 +22,7 @@ pub enum Update<M> {
 }
 
 // The incoming add that a forwarded one names, the tweak, and the key that was learned for it.
-#[derive(Clone, Copy)]
+#[derive(Clone, Copy, Debug, PartialEq, Eq)]
 pub struct Incoming {
     pub channel: u64,
     pub id: u16,
@@ -31,14 +31,14 @@ pub struct Incoming {
 }
 
 // The ways in which an add is resolved.
-#[derive(Clone, Copy)]
+#[derive(Clone, Copy, Debug, PartialEq, Eq)]
 pub enum Resolution {
     Fulfilled,
     Failed,
 }
 
 // The first so many updates of our log and of the peer's.
-#[derive(Clone, Copy)]
+#[derive(Clone, Copy, Debug, PartialEq, Eq)]
 pub struct Entry {
     pub ours: u16,
     pub theirs: u16,

@@ -1,16 +1,19 @@
 -- Reading by the type: a message too short for one, a type that no message has, and the type and fields of any other.
-use Rattle.std.proofs.Common.{◌≡◌, ℕ, ◌+◌, ◌*◌, ◌<◌, ◌≤◌, eqb, List, [], ◌∷◌, length, get_or, drop, None, sym, refl, ap, ◌∙◌, arith}
+use Rattle.std.proofs.Common.{◌≡◌, ◌≢◌, ℕ, ◌+◌, ◌*◌, ◌<◌, ◌≤◌, eqb, List, [], ◌∷◌, length, get_or, drop, None, sym, refl, ap, ◌∙◌, arith}
 use Rattle.std.proofs.lemmas.Bool.{ne_eqb, cond-false}
+use Rattle.messages.specs.declared.kind.Kind.{Kind}
+use Rattle.messages.specs.declared.kind.Kind.TheVariants.{Add, Fulfil, Fail, Signed, Revoked, Fee, Reestablish}
+use Rattle.messages.specs.Kinds.{kind_number}
 use Rattle.messages.specs.Reading.{read_fields, read_message}
 
 module _ (width type : ℕ) (fields : List ℕ) where
-  pub unknown : (type ≡ 128 → ⊥) → (type ≡ 130 → ⊥) → (type ≡ 131 → ⊥) → (type ≡ 132 → ⊥) → (type ≡ 133 → ⊥) → (type ≡ 134 → ⊥) → (type ≡ 136 → ⊥) → None ≡ read_fields width type fields
+  pub unknown : ((kind : Kind) → type ≢ kind_number kind) → None ≡ read_fields width type fields
   unfolding read_fields
-  unknown a b c d e f g =
+  unknown none =
       sym
-      (cond-false (eqb type 128) _ _ (ne_eqb type 128 a) ∙ cond-false (eqb type 130) _ _ (ne_eqb type 130 b) ∙ cond-false (eqb type 131) _ _ (ne_eqb type 131 c)
-      ∙ cond-false (eqb type 132) _ _ (ne_eqb type 132 d) ∙ cond-false (eqb type 133) _ _ (ne_eqb type 133 e) ∙ cond-false (eqb type 134) _ _ (ne_eqb type 134 f)
-      ∙ cond-false (eqb type 136) _ _ (ne_eqb type 136 g))
+      (cond-false (eqb type 128) _ _ (ne_eqb type 128 (none Add)) ∙ cond-false (eqb type 130) _ _ (ne_eqb type 130 (none Fulfil)) ∙ cond-false (eqb type 131) _ _ (ne_eqb type 131 (none Fail))
+      ∙ cond-false (eqb type 132) _ _ (ne_eqb type 132 (none Signed)) ∙ cond-false (eqb type 133) _ _ (ne_eqb type 133 (none Revoked)) ∙ cond-false (eqb type 134) _ _ (ne_eqb type 134 (none Fee))
+      ∙ cond-false (eqb type 136) _ _ (ne_eqb type 136 (none Reestablish)))
 
 pub read_short : (width : ℕ) (bs : List ℕ) → length bs < 2 → None ≡ read_message width bs
 unfolding read_message

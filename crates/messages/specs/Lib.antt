@@ -1,4 +1,5 @@
 pub mod Contents
 pub mod Faults
+pub mod Kinds
 pub mod Reading
 pub mod RoundTrip

@@ -2,6 +2,7 @@
 #![tactic(auto)]
 
 pub mod fault;
+pub mod kind;
 pub mod message;
 pub mod reader;
 pub mod writer;

@@ -1,5 +1,5 @@
 // The seven messages. Fields of 32 bytes, and the amount of an add, are parts of the received bytes.
-#[derive(Clone, Copy)]
+#[derive(Clone, Copy, Debug, PartialEq, Eq)]
 pub enum Message<'a> {
     Add {
         id: u16,

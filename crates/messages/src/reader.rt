@@ -3,70 +3,65 @@ ghost use Rattle.std.specs.Prelude.{◌≡◌, ◌+◌};
 ghost use Rattle.std.specs.Option.{option_map, ok_or};
 ghost use Rattle.octets.specs.Places.{part};
 ghost use Rattle.messages.specs.Contents.{content, fulfil, fail, signed, revoked, fee, reestablish};
+ghost use Rattle.messages.specs.Kinds.{kind_number};
 ghost use Rattle.messages.specs.Reading.{contents, number_at, whole, read_add, read_fields, read_message};
 ghost use Rattle.messages.specs.RoundTrip.{RoundTrip};
 ghost use Rattle.messages.specs.declared.fault.MessageFault.TheVariants.{Malformed};
 
 use crate::fault::MessageFault;
+use crate::kind::{Kind, UnknownKind};
 use crate::message::Message;
 use money::kind::Money;
-use octets::numbers::{read_u16, read_u32, read_u64};
-use octets::values::value_at;
-
-const ADD: u16 = 128;
-
-const FULFIL: u16 = 130;
-
-const FAIL: u16 = 131;
-
-const SIGNED: u16 = 132;
-
-const REVOKED: u16 = 133;
-
-const FEE: u16 = 134;
-
-const REESTABLISH: u16 = 136;
+use octets::numbers::Number;
+use octets::places::array_at;
 
 // The message of a channel whose amounts are of one kind of money.
 pub fn read<M: Money>(channel: u64, bytes: &[u8]) -> Result<Message<'_>, MessageFault>
-    ensures { contents result ≡ ok_or (read_message M.Money.terms.width bytes.now) (Malformed channel) }
+    ensures { contents result ≡ ok_or (read_message M.terms.width bytes.now) (Malformed channel) }
+{
+    read_message::<M>(bytes).ok_or(MessageFault::Malformed { channel })
+}
+
+fn read_message<M: Money>(bytes: &[u8]) -> Option<Message<'_>>
+    ensures { option_map content result ≡ read_message M.terms.width bytes.now }
 {
     let [high, low, fields @ ..] = bytes else {
-        return Err(MessageFault::Malformed { channel });
+        return None;
     };
-    match read_type::<M>(u16::from_be_bytes([*high, *low]), fields) {
-        Some(message) => Ok(message),
-        None => Err(MessageFault::Malformed { channel }),
+    // Behind `.ok()?` the proof would have lost which number was tried.
+    match Kind::try_from(u16::from_be_bytes([*high, *low])) {
+        Ok(kind) => read_kind::<M>(kind, fields),
+        Err(UnknownKind) => None,
     }
 }
 
-fn read_type<M: Money>(number: u16, fields: &[u8]) -> Option<Message<'_>>
-    ensures { option_map content result ≡ read_fields M.Money.terms.width number fields.now }
+#[tactic(auto, unfolding(crate::specs::Reading::read_fields))]
+fn read_kind<M: Money>(kind: Kind, fields: &[u8]) -> Option<Message<'_>>
+    ensures { option_map content result ≡ read_fields M.terms.width (kind_number kind) fields.now }
 {
-    match number {
-        ADD => read_add::<M>(fields),
-        FULFIL => read_fulfil(fields),
-        FAIL => read_fail(fields),
-        SIGNED => read_signed(fields),
-        REVOKED => read_revoked(fields),
-        FEE => read_fee(fields),
-        REESTABLISH => read_reestablish(fields),
-        _ => None,
+    match kind {
+        Kind::Add => read_add::<M>(fields),
+        Kind::Fulfil => read_fulfil(fields),
+        Kind::Fail => read_fail(fields),
+        Kind::Signed => read_signed(fields),
+        Kind::Revoked => read_revoked(fields),
+        Kind::Fee => read_fee(fields),
+        Kind::Reestablish => read_reestablish(fields),
     }
 }
 
 fn read_add<M: Money>(fields: &[u8]) -> Option<Message<'_>>
-    ensures { option_map content result ≡ read_add M.Money.terms.width fields.now }
+    ensures { option_map content result ≡ read_add M.terms.width fields.now }
 {
     let width = M::byte_width();
     if fields.len() != 38 + width {
         return None;
     }
     Some(Message::Add {
-        id: read_u16(fields, 0),
+        id: u16::read(fields, 0),
         amount: &fields[2..2 + width],
-        value: value_at(fields, 2 + width),
-        expiry: read_u32(fields, 34 + width),
+        value: array_at(fields, 2 + width),
+        expiry: u32::read(fields, 34 + width),
     })
 }
 
@@ -77,8 +72,8 @@ fn read_fulfil(fields: &[u8]) -> Option<Message<'_>>
         return None;
     }
     Some(Message::Fulfil {
-        id: read_u16(fields, 0),
-        key: value_at(fields, 2),
+        id: u16::read(fields, 0),
+        key: array_at(fields, 2),
     })
 }
 
@@ -89,7 +84,7 @@ fn read_fail(fields: &[u8]) -> Option<Message<'_>>
         return None;
     }
     Some(Message::Fail {
-        id: read_u16(fields, 0),
+        id: u16::read(fields, 0),
     })
 }
 
@@ -100,7 +95,7 @@ fn read_signed(fields: &[u8]) -> Option<Message<'_>>
         return None;
     }
     Some(Message::Signed {
-        signature: value_at(fields, 0),
+        signature: array_at(fields, 0),
     })
 }
 
@@ -111,8 +106,8 @@ fn read_revoked(fields: &[u8]) -> Option<Message<'_>>
         return None;
     }
     Some(Message::Revoked {
-        secret: value_at(fields, 0),
-        point: value_at(fields, 32),
+        secret: array_at(fields, 0),
+        point: array_at(fields, 32),
     })
 }
 
@@ -123,7 +118,7 @@ fn read_fee(fields: &[u8]) -> Option<Message<'_>>
         return None;
     }
     Some(Message::Fee {
-        rate: read_u32(fields, 0),
+        rate: u32::read(fields, 0),
     })
 }
 
@@ -134,8 +129,8 @@ fn read_reestablish(fields: &[u8]) -> Option<Message<'_>>
         return None;
     }
     Some(Message::Reestablish {
-        commitment: read_u64(fields, 0),
-        revocation: read_u64(fields, 8),
+        commitment: u64::read(fields, 0),
+        revocation: u64::read(fields, 8),
     })
 }
 

@@ -1,10 +1,13 @@
 // The writers: each puts its message at the front of a lent buffer, alters nothing behind it, and says how long it is.
 ghost use Rattle.std.specs.Prelude.{◌≡◌, ◌+◌, ◌≤◌, length};
 ghost use Rattle.octets.specs.Places.{over};
+ghost use Rattle.octets.specs.Numbers.{bytes_of};
+ghost use Rattle.messages.specs.Kinds.{kind_number};
 ghost use Rattle.messages.specs.Contents.{message_bytes, add, fulfil, fail, signed, revoked, fee, reestablish};
 
+use crate::kind::Kind;
 use money::kind::Money;
-use octets::places::{put, put_u16, put_u32, put_u64};
+use octets::places::{put, put_number};
 
 pub const FULFIL_LENGTH: usize = 36;
 
@@ -18,9 +21,17 @@ pub const FEE_LENGTH: usize = 6;
 
 pub const REESTABLISH_LENGTH: usize = 18;
 
+// Every message begins with its type.
+fn put_kind(out: &mut [u8], kind: Kind)
+    requires { 2 ≤ length out.old }
+    ensures { out.new ≡ over out.old 0 (bytes_of 2 (kind_number kind)) }
+{
+    put_number(out, 0, u16::from(kind));
+}
+
 // How long an add is, by the width of the money.
 pub fn add_length<M: Money>() -> usize
-    ensures { result ≡ 40 + M.Money.terms.width }
+    ensures { result ≡ 40 + M.terms.width }
 {
     40 + M::byte_width()
 }
@@ -32,16 +43,16 @@ pub fn write_add<M: Money>(
     value: &[u8; 32],
     expiry: u32,
 ) -> usize
-    requires { 40 + M.Money.terms.width ≤ length out.old }
-    ensures bytes { out.new ≡ over out.old 0 (message_bytes (add id (M.Money.terms.written (M.Money.asset amount.now)) value.now expiry)) }
-    ensures long { result ≡ length (message_bytes (add id (M.Money.terms.written (M.Money.asset amount.now)) value.now expiry)) }
+    requires { 40 + M.terms.width ≤ length out.old }
+    ensures bytes { out.new ≡ over out.old 0 (message_bytes (add id (M.terms.written (M.asset amount.now)) value.now expiry)) }
+    ensures long { result ≡ length (message_bytes (add id (M.terms.written (M.asset amount.now)) value.now expiry)) }
 {
     let width = M::byte_width();
-    put_u16(out, 0, 128);
-    put_u16(out, 2, id);
+    put_kind(out, Kind::Add);
+    put_number(out, 2, id);
     amount.write(out, 4);
     put(out, 4 + width, value);
-    put_u32(out, 36 + width, expiry);
+    put_number(out, 36 + width, expiry);
     40 + width
 }
 
@@ -50,8 +61,8 @@ pub fn write_fulfil(out: &mut [u8], id: u16, key: &[u8; 32]) -> usize
     ensures bytes { out.new ≡ over out.old 0 (message_bytes (fulfil id key.now)) }
     ensures long { result ≡ length (message_bytes (fulfil id key.now)) }
 {
-    put_u16(out, 0, 130);
-    put_u16(out, 2, id);
+    put_kind(out, Kind::Fulfil);
+    put_number(out, 2, id);
     put(out, 4, key);
     FULFIL_LENGTH
 }
@@ -61,8 +72,8 @@ pub fn write_fail(out: &mut [u8], id: u16) -> usize
     ensures bytes { out.new ≡ over out.old 0 (message_bytes (fail id)) }
     ensures long { result ≡ length (message_bytes (fail id)) }
 {
-    put_u16(out, 0, 131);
-    put_u16(out, 2, id);
+    put_kind(out, Kind::Fail);
+    put_number(out, 2, id);
     FAIL_LENGTH
 }
 
@@ -71,7 +82,7 @@ pub fn write_signed(out: &mut [u8], signature: &[u8; 32]) -> usize
     ensures bytes { out.new ≡ over out.old 0 (message_bytes (signed signature.now)) }
     ensures long { result ≡ length (message_bytes (signed signature.now)) }
 {
-    put_u16(out, 0, 132);
+    put_kind(out, Kind::Signed);
     put(out, 2, signature);
     SIGNED_LENGTH
 }
@@ -81,7 +92,7 @@ pub fn write_revoked(out: &mut [u8], secret: &[u8; 32], point: &[u8; 32]) -> usi
     ensures bytes { out.new ≡ over out.old 0 (message_bytes (revoked secret.now point.now)) }
     ensures long { result ≡ length (message_bytes (revoked secret.now point.now)) }
 {
-    put_u16(out, 0, 133);
+    put_kind(out, Kind::Revoked);
     put(out, 2, secret);
     put(out, 34, point);
     REVOKED_LENGTH
@@ -92,8 +103,8 @@ pub fn write_fee(out: &mut [u8], rate: u32) -> usize
     ensures bytes { out.new ≡ over out.old 0 (message_bytes (fee rate)) }
     ensures long { result ≡ length (message_bytes (fee rate)) }
 {
-    put_u16(out, 0, 134);
-    put_u32(out, 2, rate);
+    put_kind(out, Kind::Fee);
+    put_number(out, 2, rate);
     FEE_LENGTH
 }
 
@@ -102,8 +113,8 @@ pub fn write_reestablish(out: &mut [u8], commitment: u64, revocation: u64) -> us
     ensures bytes { out.new ≡ over out.old 0 (message_bytes (reestablish commitment revocation)) }
     ensures long { result ≡ length (message_bytes (reestablish commitment revocation)) }
 {
-    put_u16(out, 0, 136);
-    put_u64(out, 2, commitment);
-    put_u64(out, 10, revocation);
+    put_kind(out, Kind::Reestablish);
+    put_number(out, 2, commitment);
+    put_number(out, 10, revocation);
     REESTABLISH_LENGTH
 }

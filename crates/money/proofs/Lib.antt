@@ -1,2 +1,2 @@
 pub mod Contains
-pub mod Filling
+pub mod Rows

@@ -1,5 +1,5 @@
 -- Lemmas on amounts in eight bytes an asset, from which the laws of the kinds follow: their length, reading them back, and writing back what was read.
-use Rattle.std.specs.Prelude.{◌≡◌, ℕ, zero, suc, ◌+◌, ◌*◌, ◌^◌, ◌<◌, ◌≤◌, List, [], ◌∷◌, ◌++◌, length, take, drop, refl}
+use Rattle.std.specs.Prelude.{◌≡◌, ℕ, zero, suc, ◌+◌, ◌*◌, ◌^◌, ◌<◌, ◌≤◌, List, ◌++◌, length, take, drop, refl}
 use Rattle.std.proofs.Common.{sym, ap, ◌∙◌, ⊎_elim, mul-suc, add-one, arith}
 use Rattle.std.proofs.Math.Path.{fun_ext}
 use Rattle.std.proofs.lemmas.List.{length-append, drop-append-le, take-append-le, drop_at, drop_all, length-drop, get_or_past}
@@ -9,7 +9,7 @@ use Rattle.octets.specs.Places.{part}
 use Rattle.octets.proofs.Laws.{number_back}
 use Rattle.octets.proofs.Parts.{part_whole, part_join, part_back}
 use Rattle.money.specs.Amounts.{Amount, row}
-use Rattle.money.specs.Terms.{eight_each, eights}
+use Rattle.money.specs.Terms.{eight_each, eights, eights_limit}
 
 pub eight_long : (n : ℕ) (f : Amount) → length (eight_each n f) ≡ 8 * n
 eight_long zero f = refl
@@ -60,15 +60,8 @@ eight_back n f small past = fun_ext (λ k. ⊎_elim (inside k) (outside k) (case
 pub row_past : (n : ℕ) (xs : List ℕ) → length xs ≡ n → (k : ℕ) → n ≤ k → row xs k ≡ 0
 row_past n xs long k l = get_or_past xs k 0 (omega arith)
 
--- So what one number means, and what a row of numbers means, is read back.
-pub single_back : (v : ℕ) → v ≤ 2100000000000000 → (eights 1).stands (eight_each 1 (row (v ∷ []))) ≡ row (v ∷ [])
-single_back v most = eight_back 1 (row (v ∷ [])) small (row_past 1 (v ∷ []) refl)
-  where
-    small : (k : ℕ) → row (v ∷ []) k < 256 ^ 8
-    small zero = omega arith
-    small (suc k) = omega arith
-
-pub row_back : (n : ℕ) (xs : List ℕ) → length xs ≡ n → ((k : ℕ) → row xs k ≤ 2100000000000000) → (eights n).stands (eight_each n (row xs)) ≡ row xs
+-- So what a row of numbers means is read back.
+pub row_back : (n : ℕ) (xs : List ℕ) → length xs ≡ n → ((k : ℕ) → row xs k ≤ eights_limit) → (eights n).stands (eight_each n (row xs)) ≡ row xs
 row_back n xs long most = eight_back n (row xs) (λ k. let fits = most k in omega arith) (row_past n xs long)
 
 module _ (bs : List ℕ) (each : Bytes bs) where

@@ -1,3 +1,4 @@
 pub mod Amounts
 pub mod Eights
 pub mod Terms
+pub mod Texts

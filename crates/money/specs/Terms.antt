@@ -21,9 +21,13 @@ abbrev pub eight_each : ℕ → Amount → List ℕ
 eight_each zero f = []
 eight_each (suc n) f = eight_each n f ++ bytes_of 8 (f n)
 
+-- The most units of an asset that takes eight bytes.
+abbrev pub eights_limit : ℕ
+eights_limit = 2100000000000000
+
 -- The terms of a kind with so many assets of eight bytes each: the satoshi has one, the basket four.
 abbrev pub eights : ℕ → Terms
-eights n = record { assets = n; limit = 2100000000000000; width = 8 * n; written = eight_each n; stands = λ bs k. number_of (part (8 * k) 8 bs) }
+eights n = record { assets = n; limit = eights_limit; width = 8 * n; written = eight_each n; stands = λ bs k. number_of (part (8 * k) 8 bs) }
 
 -- Bytes that are read write back as they were.
 abbrev pub Rewritten : Terms → Type 0

@@ -1,47 +1,48 @@
 // The basket: four assets.
-ghost use Rattle.std.specs.Prelude.{◌≡◌, ℕ, ◌≤◌, length, slice_index};
+ghost use Rattle.std.specs.Prelude.{◌≡◌, Some};
 ghost use Rattle.std.specs.Option.{option_map};
 ghost use Rattle.std.proofs.Common.{rules};
 ghost use Rattle.money.specs.Amounts.{row, limited};
-ghost use Rattle.money.specs.Terms.{eights};
+ghost use Rattle.money.specs.Terms.{eights, eights_limit};
+ghost use Rattle.money.specs.Texts.{basket_text};
 ghost use Rattle.money.specs.Eights.{row_past, row_back};
 
+use crate::counts::{Counts, LIMIT};
 use crate::kind::Money;
-use crate::{rows, units};
-use octets::places::put_u64;
+use std::fmt;
 
-#[derive(Clone, Copy)]
-pub struct Basket {
-    amounts: [u64; 4],
-    ghost ok: { (length amounts ≡ 4) × ((k : ℕ) → slice_index amounts k ≤ 2100000000000000) },
-}
+pub type Basket = Counts<4>;
 
-impl Basket {
+impl Counts<4> {
     // A value, unless an asset passes the limit.
     pub fn new(amounts: [u64; 4]) -> Option<Basket>
-        ensures { option_map (λ b. row b.amounts) result ≡ limited 4 2100000000000000 (row amounts) }
+        ensures { option_map (λ b. row b.counts) result ≡ limited 4 eights_limit (row amounts) }
     {
-        let amounts = rows::within(amounts)?;
-        Some(Basket { amounts })
-    }
-
-    pub fn amounts(&self) -> [u64; 4]
-        ensures { result ≡ self.now.amounts }
-    {
-        self.amounts
+        Counts::of(amounts)
     }
 }
 
+// The four are named here; a loop would have to say what stands between them.
+impl fmt::Display for Counts<4> {
+    ghost output = { λ basket. Some (basket_text (row basket.counts)) };
+
+    fn fmt<W: fmt::Write>(&self, f: &mut fmt::Formatter<W>) -> fmt::Result {
+        let [first, second, third, fourth] = self.amounts();
+        write!(f, "{first},{second},{third},{fourth}")
+    }
+}
+
+// Each kind has an impl of its own: the laws hold for 1 to 128 assets, and a const parameter has no bound.
 impl Money for Basket {
     const ASSETS: usize = 4;
 
-    const LIMIT: u64 = units::LIMIT;
+    const LIMIT: u64 = LIMIT;
 
     const WIDTH: usize = 32;
 
     ghost terms = { eights 4 };
 
-    ghost asset = { λ b. row b.amounts };
+    ghost asset = { λ value. row value.counts };
 
     ghost assets = { Prim.search rules };
 
@@ -49,11 +50,11 @@ impl Money for Basket {
 
     ghost within = { Prim.search rules };
 
-    ghost past = { λ x. row_past 4 x.amounts x.ok.0 };
+    ghost past = { λ value. row_past 4 value.counts value.ok.0 };
 
     ghost long = { Prim.search rules };
 
-    ghost back = { λ x. row_back 4 x.amounts x.ok.0 x.ok.1 };
+    ghost back = { λ value. row_back 4 value.counts value.ok.0 value.ok.1 };
 
     fn asset_count() -> usize {
         Self::ASSETS
@@ -68,33 +69,26 @@ impl Money for Basket {
     }
 
     fn nothing() -> Basket {
-        Basket { amounts: [0; 4] }
+        Counts::zero()
     }
 
     fn sum(&self, other: &Basket) -> Option<Basket> {
-        let amounts = rows::sum(&self.amounts, &other.amounts)?;
-        Some(Basket { amounts })
+        self.plus(other)
     }
 
     fn difference(&self, other: &Basket) -> Option<Basket> {
-        let amounts = rows::difference(&self.amounts, &other.amounts)?;
-        Some(Basket { amounts })
+        self.minus(other)
     }
 
     fn units(count: u64, balance: &Basket) -> Basket {
-        Basket {
-            amounts: [count.min(balance.amounts[0]), 0, 0, 0],
-        }
+        Counts::capped(count, balance)
     }
 
     fn write(&self, out: &mut [u8], at: usize) {
-        for i in 0..4 {
-            put_u64(out, at + 8 * i, self.amounts[i]);
-        }
+        self.put(out, at);
     }
 
     fn read(bytes: &[u8]) -> Option<Basket> {
-        let amounts = rows::read(bytes)?;
-        Some(Basket { amounts })
+        Counts::get(bytes)
     }
 }

@@ -2,7 +2,6 @@
 #![tactic(auto)]
 
 pub mod basket;
+pub mod counts;
 pub mod kind;
-mod rows;
 pub mod satoshi;
-mod units;

@@ -1,47 +1,54 @@
 // The satoshi: one asset.
-ghost use Rattle.std.specs.Prelude.{◌≡◌, ◌≤◌, [], ◌∷◌, if◌then◌else◌, Some, None, nat_le};
+ghost use Rattle.std.specs.Prelude.{◌≡◌, if◌then◌else◌, Some, None, nat_le, slice_index};
 ghost use Rattle.std.specs.Option.{option_map};
 ghost use Rattle.std.proofs.Common.{rules};
 ghost use Rattle.money.specs.Amounts.{row};
-ghost use Rattle.money.specs.Terms.{eights};
-ghost use Rattle.money.specs.Eights.{single_back};
+ghost use Rattle.money.specs.Terms.{eights, eights_limit};
+ghost use Rattle.money.specs.Texts.{satoshi_text};
+ghost use Rattle.money.specs.Eights.{row_past, row_back};
 
+use crate::counts::{Counts, LIMIT};
 use crate::kind::Money;
-use crate::units;
-use octets::places::put_u64;
+use std::fmt;
 
-#[derive(Clone, Copy)]
-pub struct Satoshi {
-    value: u64,
-    ghost ok: { value ≤ 2100000000000000 },
-}
+pub type Satoshi = Counts<1>;
 
-impl Satoshi {
+impl Counts<1> {
     // A value, unless it passes the limit.
     pub fn new(value: u64) -> Option<Satoshi>
-        ensures { option_map (λ s. s.value) result ≡ (if nat_le value 2100000000000000 then Some value else None) }
+        ensures { option_map (λ s. slice_index s.counts 0) result ≡ (if nat_le value eights_limit then Some value else None) }
     {
-        let value = units::within(value)?;
-        Some(Satoshi { value })
+        Counts::of([value])
     }
 
     pub fn value(&self) -> u64
-        ensures { result ≡ self.now.value }
+        ensures { result ≡ slice_index self.now.counts 0 }
     {
-        self.value
+        let [value] = self.amounts();
+        value
     }
 }
 
+impl fmt::Display for Counts<1> {
+    ghost output = { λ satoshi. Some (satoshi_text (row satoshi.counts)) };
+
+    fn fmt<W: fmt::Write>(&self, f: &mut fmt::Formatter<W>) -> fmt::Result {
+        let value = self.value();
+        write!(f, "{value}")
+    }
+}
+
+// Each kind has an impl of its own: the laws hold for 1 to 128 assets, and a const parameter has no bound.
 impl Money for Satoshi {
     const ASSETS: usize = 1;
 
-    const LIMIT: u64 = units::LIMIT;
+    const LIMIT: u64 = LIMIT;
 
     const WIDTH: usize = 8;
 
     ghost terms = { eights 1 };
 
-    ghost asset = { λ s. row (s.value ∷ []) };
+    ghost asset = { λ value. row value.counts };
 
     ghost assets = { Prim.search rules };
 
@@ -49,11 +56,11 @@ impl Money for Satoshi {
 
     ghost within = { Prim.search rules };
 
-    ghost past = { Prim.search rules };
+    ghost past = { λ value. row_past 1 value.counts value.ok.0 };
 
     ghost long = { Prim.search rules };
 
-    ghost back = { λ x. single_back x.value x.ok };
+    ghost back = { λ value. row_back 1 value.counts value.ok.0 value.ok.1 };
 
     fn asset_count() -> usize {
         Self::ASSETS
@@ -68,31 +75,26 @@ impl Money for Satoshi {
     }
 
     fn nothing() -> Satoshi {
-        Satoshi { value: 0 }
+        Counts::zero()
     }
 
     fn sum(&self, other: &Satoshi) -> Option<Satoshi> {
-        let value = units::single_sum(self.value, other.value)?;
-        Some(Satoshi { value })
+        self.plus(other)
     }
 
     fn difference(&self, other: &Satoshi) -> Option<Satoshi> {
-        let value = units::single_difference(self.value, other.value)?;
-        Some(Satoshi { value })
+        self.minus(other)
     }
 
     fn units(count: u64, balance: &Satoshi) -> Satoshi {
-        Satoshi {
-            value: count.min(balance.value),
-        }
+        Counts::capped(count, balance)
     }
 
     fn write(&self, out: &mut [u8], at: usize) {
-        put_u64(out, at, self.value);
+        self.put(out, at);
     }
 
     fn read(bytes: &[u8]) -> Option<Satoshi> {
-        let value = units::single_read(bytes)?;
-        Some(Satoshi { value })
+        Counts::get(bytes)
     }
 }

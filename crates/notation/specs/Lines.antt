@@ -33,6 +33,11 @@ first_line text = take (front is_in_line text) text
 abbrev pub later_lines : List ℕ → List ℕ
 later_lines text = drop (front is_in_line text + 1) text
 
+-- The next line of a text and what is left of it, or nothing where the text is empty.
+abbrev pub NextLine : List ℕ → Option (Bor (List ℕ)) → List ℕ → Type 0
+NextLine text (Some line) rest = (0 < length text) × (line.now ≡ first_line text) × (rest ≡ later_lines text)
+NextLine text None rest = (text ≡ []) × (rest ≡ [])
+
 -- A carriage return at the end of a line is no part of it.
 abbrev pub without_return : List ℕ → List ℕ
 without_return line = cond (slice_index line (length line - 1) == 13) (take (length line - 1) line) line

@@ -1,9 +1,10 @@
 // Bytes as hex digits.
-ghost use Rattle.std.specs.Prelude.{◌≡◌, ◌+◌, ◌*◌, ◌<◌, length, IfSome, IfOk, vec_items, string_bytes};
+ghost use Rattle.std.specs.Prelude.{◌≡◌, ◌+◌, ◌*◌, ◌<◌, length, Some, IfSome, IfOk, vec_items, string_bytes};
 ghost use Rattle.std.specs.Option.{option_map};
-ghost use Rattle.notation.specs.Hex.{digit_number, digit_of, hex_of, byte_of, bytes_from, value_from, HexReadsBack};
+ghost use Rattle.notation.specs.Hex.{digit_number, hex_of, byte_of, bytes_from, value_from, HexReadsBack};
 
 use std::alloc::{AllocError, Global};
+use std::fmt;
 
 // The number of a digit.
 fn digit_number(digit: u8) -> Option<u8>
@@ -16,19 +17,6 @@ fn digit_number(digit: u8) -> Option<u8>
         b'A'..=b'F' => Some(digit - b'A' + 10),
         _ => None,
     }
-}
-
-// The digit of a number below 16.
-fn digit_of(number: u8) -> char
-    requires { number < 16 }
-    ensures value { result ≡ digit_of number }
-    ensures ascii { result < 128 }
-{
-    char::from(if number < 10 {
-        b'0' + number
-    } else {
-        b'a' + number - 10
-    })
 }
 
 // The byte of two digits.
@@ -45,7 +33,7 @@ fn decode_into(mut digits: &[u8], out: &mut [u8]) -> Option<()>
     requires { length digits.now ≡ 2 * length out.old }
     ensures { bytes_from digits.now ≡ option_map (λ _. out.new) result }
 {
-    // A `zip` of `iter_mut` with the pairs leaves a proof without the bytes of the row.
+    // With `zip` over `iter_mut` a proof would know nothing of the bytes that were filled in.
     for byte in out {
         let ([high, low], rest) = digits.split_first_chunk::<2>()?;
         *byte = byte_of(*high, *low)?;
@@ -77,16 +65,26 @@ pub fn decode_value(digits: &[u8]) -> Option<[u8; 32]>
     Some(value)
 }
 
-// The digits of bytes, in lower case.
+// Bytes that print as their digits, in lower case.
+#[derive(Clone, Copy, Debug, PartialEq, Eq)]
+pub struct Hex<'a>(pub &'a [u8]);
+
+impl fmt::Display for Hex<'_> {
+    ghost output = { λ hex. Some (hex_of hex.0.now) };
+
+    fn fmt<W: fmt::Write>(&self, f: &mut fmt::Formatter<W>) -> fmt::Result {
+        for &byte in self.0 {
+            write!(f, "{byte:02x}")?;
+        }
+        Ok(())
+    }
+}
+
+// The digits of bytes as a text of their own.
 pub fn encode(heap: Global, bytes: &[u8]) -> Result<String, AllocError>
     ensures { IfOk result (λ text. string_bytes text ≡ hex_of bytes.now) }
 {
-    let mut text = String::new(heap);
-    for byte in bytes {
-        text.push(digit_of(byte / 16))?;
-        text.push(digit_of(byte % 16))?;
-    }
-    Ok(text)
+    Hex(bytes).to_string(heap)
 }
 
 // Carries the law that hex reads back what it writes.

@@ -1,6 +1,7 @@
-// Lines, and the words in them.
+// Lines, and the words in them. A text is bytes here: what is no UTF-8 is the fault of one line, not of the whole book.
 ghost use Rattle.std.specs.Prelude.{◌≡◌, ◌<◌, length};
-ghost use Rattle.notation.specs.Lines.{is_blank, first_line, later_lines, without_return, Splits, passed_over, printable};
+ghost use Rattle.std.specs.Iterator.{at_most};
+ghost use Rattle.notation.specs.Lines.{is_blank, first_line, later_lines, NextLine, without_return, Splits, passed_over, printable};
 
 // Words are separated by spaces and tabs.
 fn is_blank(byte: u8) -> bool
@@ -18,6 +19,37 @@ pub fn split_line(text: &[u8]) -> (&[u8], &[u8])
     match text.iter().position(|byte| *byte == b'\n') {
         Some(end) => (&text[..end], &text[end + 1..]),
         None => (text, &[]),
+    }
+}
+
+// The lines of a text, one by one.
+#[derive(Clone, Debug, Drop)]
+pub struct Lines<'a> {
+    rest: &'a [u8],
+}
+
+impl<'a> Lines<'a> {
+    pub fn new(text: &'a [u8]) -> Lines<'a>
+        ensures { result.rest.now ≡ text.now }
+    {
+        Lines { rest: text }
+    }
+}
+
+impl<'a> Iterator for Lines<'a> {
+    type Item = &'a [u8];
+
+    ghost next_gives = { λ before line after. NextLine before.rest.now line after.rest.now };
+
+    ghost remaining = { λ lines. at_most (length lines.rest.now) };
+
+    fn next(&mut self) -> Option<&'a [u8]> {
+        if self.rest.is_empty() {
+            return None;
+        }
+        let (line, rest) = split_line(self.rest);
+        self.rest = rest;
+        Some(line)
     }
 }
 

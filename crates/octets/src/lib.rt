@@ -1,6 +1,5 @@
-// Bytes: numbers with the highest byte first, writing at a place of a lent slice, and values of 32 bytes.
+// Bytes: numbers with the highest byte first, and reading and writing at a place of a lent slice.
 #![tactic(auto)]
 
 pub mod numbers;
 pub mod places;
-pub mod values;

@@ -1,57 +1,74 @@
-// Numbers of 2, 4 and 8 bytes, the highest byte first.
-ghost use Rattle.std.specs.Prelude.{◌≡◌, ◌+◌, ◌≤◌, length};
+// Numbers of 2, 4 and 8 bytes, the highest byte first. Each width stands on the library's functions of its type.
+ghost use Rattle.std.specs.Prelude.{◌≡◌, ℕ, ◌+◌, ◌≤◌, length};
 ghost use Rattle.octets.specs.Numbers.{bytes_of, number_of, Reversed};
 ghost use Rattle.octets.specs.Places.{part};
 
-pub fn to_bytes2(n: u16) -> [u8; 2]
-    ensures { result ≡ bytes_of 2 n }
-{
-    u16::to_be_bytes(n)
+use crate::places::array_at;
+use std::convert::AsSlice;
+
+// A number that takes so many bytes.
+pub trait Number: Copy {
+    type Bytes: AsSlice<u8> + Copy;
+
+    ghost width: { ℕ };
+
+    ghost value: { Self → ℕ };
+
+    fn to_bytes(self) -> Self::Bytes
+        ensures { Self.Bytes.items result ≡ bytes_of width (value self) };
+
+    // The number of the bytes from a place on.
+    fn read(bytes: &[u8], at: usize) -> Self
+        requires { at + width ≤ length bytes.now }
+        ensures { value result ≡ number_of (part at width bytes.now) };
 }
 
-pub fn to_bytes4(n: u32) -> [u8; 4]
-    ensures { result ≡ bytes_of 4 n }
-{
-    u32::to_be_bytes(n)
+impl Number for u16 {
+    type Bytes = [u8; 2];
+
+    ghost width = { 2 };
+
+    ghost value = { λ n. n };
+
+    fn to_bytes(self) -> [u8; 2] {
+        u16::to_be_bytes(self)
+    }
+
+    fn read(bytes: &[u8], at: usize) -> u16 {
+        u16::from_be_bytes(*array_at(bytes, at))
+    }
 }
 
-pub fn to_bytes8(n: u64) -> [u8; 8]
-    ensures { result ≡ bytes_of 8 n }
-{
-    u64::to_be_bytes(n)
+impl Number for u32 {
+    type Bytes = [u8; 4];
+
+    ghost width = { 4 };
+
+    ghost value = { λ n. n };
+
+    fn to_bytes(self) -> [u8; 4] {
+        u32::to_be_bytes(self)
+    }
+
+    fn read(bytes: &[u8], at: usize) -> u32 {
+        u32::from_be_bytes(*array_at(bytes, at))
+    }
 }
 
-// The number of two bytes from a place on.
-pub fn read_u16(bytes: &[u8], at: usize) -> u16
-    requires { at + 2 ≤ length bytes.now }
-    ensures { result ≡ number_of (part at 2 bytes.now) }
-{
-    u16::from_be_bytes([bytes[at], bytes[at + 1]])
-}
+impl Number for u64 {
+    type Bytes = [u8; 8];
 
-// The number of four bytes from a place on.
-pub fn read_u32(bytes: &[u8], at: usize) -> u32
-    requires { at + 4 ≤ length bytes.now }
-    ensures { result ≡ number_of (part at 4 bytes.now) }
-{
-    u32::from_be_bytes([bytes[at], bytes[at + 1], bytes[at + 2], bytes[at + 3]])
-}
+    ghost width = { 8 };
 
-// The number of eight bytes from a place on.
-pub fn read_u64(bytes: &[u8], at: usize) -> u64
-    requires { at + 8 ≤ length bytes.now }
-    ensures { result ≡ number_of (part at 8 bytes.now) }
-{
-    u64::from_be_bytes([
-        bytes[at],
-        bytes[at + 1],
-        bytes[at + 2],
-        bytes[at + 3],
-        bytes[at + 4],
-        bytes[at + 5],
-        bytes[at + 6],
-        bytes[at + 7],
-    ])
+    ghost value = { λ n. n };
+
+    fn to_bytes(self) -> [u8; 8] {
+        u64::to_be_bytes(self)
+    }
+
+    fn read(bytes: &[u8], at: usize) -> u64 {
+        u64::from_be_bytes(*array_at(bytes, at))
+    }
 }
 
 // Carries the law that reading and writing undo each other.

@@ -1,11 +1,24 @@
-// Writing at a place of a lent slice, with nothing else altered.
+// Reading and writing at a place of a lent slice. Slice and place are handed over apart: `&mut out[at..]` at each call
+// would say the same in more signs.
 ghost use Rattle.std.specs.Prelude.{◌≡◌, ◌+◌, ◌≤◌, length};
 ghost use Rattle.octets.specs.Numbers.{bytes_of};
-ghost use Rattle.octets.specs.Places.{over};
+ghost use Rattle.octets.specs.Places.{over, part};
 
-use crate::numbers::{to_bytes2, to_bytes4, to_bytes8};
+use crate::numbers::Number;
+use std::convert::AsSlice;
 
-// Writes a piece from a place on.
+// The so many bytes from a place on, as a part of the slice.
+pub fn array_at<const LENGTH: usize>(bytes: &[u8], at: usize) -> &[u8; LENGTH]
+    requires { at + LENGTH ≤ length bytes.now }
+    ensures { result.now ≡ part at LENGTH bytes.now }
+{
+    match bytes[at..].split_first_chunk::<LENGTH>() {
+        Some((array, _)) => array,
+        None => unreachable!(),
+    }
+}
+
+// Writes a piece from a place on, with nothing else altered.
 pub fn put(out: &mut [u8], at: usize, piece: &[u8])
     requires { at + length piece.now ≤ length out.old }
     ensures { out.new ≡ over out.old at piece.now }
@@ -13,26 +26,10 @@ pub fn put(out: &mut [u8], at: usize, piece: &[u8])
     out[at..at + piece.len()].copy_from_slice(piece);
 }
 
-// Writes the two bytes of a number.
-pub fn put_u16(out: &mut [u8], at: usize, n: u16)
-    requires { at + 2 ≤ length out.old }
-    ensures { out.new ≡ over out.old at (bytes_of 2 n) }
+// Writes the bytes of a number.
+pub fn put_number<N: Number>(out: &mut [u8], at: usize, number: N)
+    requires { at + N.width ≤ length out.old }
+    ensures { out.new ≡ over out.old at (bytes_of N.width (N.value number)) }
 {
-    put(out, at, &to_bytes2(n));
-}
-
-// Writes the four bytes of a number.
-pub fn put_u32(out: &mut [u8], at: usize, n: u32)
-    requires { at + 4 ≤ length out.old }
-    ensures { out.new ≡ over out.old at (bytes_of 4 n) }
-{
-    put(out, at, &to_bytes4(n));
-}
-
-// Writes the eight bytes of a number.
-pub fn put_u64(out: &mut [u8], at: usize, n: u64)
-    requires { at + 8 ≤ length out.old }
-    ensures { out.new ≡ over out.old at (bytes_of 8 n) }
-{
-    put(out, at, &to_bytes8(n));
+    put(out, at, number.to_bytes().as_slice());
 }

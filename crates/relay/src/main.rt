@@ -1,23 +1,21 @@
 // Reads a book of commands, and prints its pages and a statement.
 #![tactic(auto)]
 
-use anyhow::anyhow;
+use anyhow::Context;
 use commands::command::Command;
 use commands::fault::Fault;
 use commands::parse::parse;
-use desk::pages::{Statement, name, page};
+use desk::answer::Decline;
+use desk::pages::{Page, Statement, name};
 use desk::questions::answer;
-use notation::lines::split_line;
+use notation::lines::Lines;
 use std::io::Read;
 use std::process::ExitCode;
 use std::{env, fs};
 
 // The bytes of a file; the error names it.
 fn read_file(rt: &HostRuntime, path: &str) -> anyhow::Result<Vec<u8>> {
-    match fs::read(rt, path) {
-        Ok(book) => Ok(book),
-        Err(error) => Err(anyhow!(format!(in rt.alloc(); "cannot read {path}: {error}")?)),
-    }
+    fs::read(rt, path).context(format_args!("cannot read {path}"))
 }
 
 // The file that the first argument names, or standard input.
@@ -40,11 +38,17 @@ fn print_page(
     statement: &mut Statement,
     command: &Command,
 ) -> anyhow::Result<()> {
-    let heap = rt.alloc();
-    let answer = answer(heap, command)?;
+    let answer = answer(rt.alloc(), command);
+    if let Err(decline @ Decline::NoMemory) = answer {
+        return Err(decline.into());
+    }
     statement.enter(&answer);
-    let text = page(heap, statement.pages(), name(command), &answer)?;
-    println!(rt; "{text}")?;
+    let page = Page {
+        number: statement.pages(),
+        name: name(command),
+        answer: &answer,
+    };
+    println!(rt; "{page}")?;
     Ok(())
 }
 
@@ -61,7 +65,7 @@ fn print_line(
             Ok(true)
         }
         Ok(None) => Ok(true),
-        Err(Fault::NoMemory) => Err(anyhow!("memory is wanting")),
+        Err(fault @ Fault::NoMemory) => Err(fault.into()),
         Err(fault) => {
             println!(rt; "line {number}: {fault}")?;
             Ok(false)
@@ -72,19 +76,13 @@ fn print_line(
 // Prints the pages of a book and its statement, and says whether all of it could be read.
 fn print_book(rt: &HostRuntime, book: &[u8]) -> anyhow::Result<bool> {
     let mut statement = Statement::new();
-    let mut rest = book;
-    let mut number: u64 = 0;
     let mut readable = true;
-    while rest.len() > 0 {
-        let (line, later) = split_line(rest);
-        rest = later;
-        number = number.saturating_add(1);
+    for (number, line) in (1..).zip(Lines::new(book)) {
         if !print_line(rt, &mut statement, number, line)? {
             readable = false;
         }
     }
-    let text = statement.text(rt.alloc())?;
-    println!(rt; "{text}")?;
+    println!(rt; "{statement}")?;
     Ok(readable)
 }
 
@@ -100,7 +98,7 @@ fn main(rt: HostRuntime) -> ExitCode {
         Ok(false) => ExitCode::FAILURE,
         Err(error) => {
             // where this cannot be written either, the exit code tells
-            let _told = eprintln!(rt; "relay: {error}");
+            let _told = eprintln!(rt; "relay: {error:#}");
             ExitCode::FAILURE
         }
     }

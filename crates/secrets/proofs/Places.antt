@@ -1,22 +1,22 @@
 -- The store's places: fitting and answering, place by place.
-use Rattle.std.proofs.Common.{◌≡◌, ℕ, zero, suc, ◌+◌, ◌<◌, ◌≤◌, true, false, ◌&&◌, List, length, get_or, drop, Some, None, sym, refl, ap, ◌∙◌, ⊎_elim, add-one, arith}
+use Rattle.std.proofs.Common.{◌≡◌, ℕ, zero, suc, ◌+◌, ◌<◌, ◌≤◌, true, ◌&&◌, List, [], ◌∷◌, length, take, get_or, drop, Some, None, sym, refl, ap, ◌∙◌, add-one, arith}
 use Rattle.std.proofs.lemmas.List.{drop_more, drop_all}
-use Rattle.std.proofs.lemmas.Bool.{and_left, and_right, cases_lt}
+use Rattle.std.proofs.Math.Bool.{and_comm, and-true}
+use Rattle.std.proofs.Math.Seq.{take-suc}
+use Rattle.std.proofs.lemmas.List.Folds.{list_all-append}
+use Rattle.std.specs.List.{list_all}
 use Rattle.secrets.specs.Store.{Places, agrees, agrees_below, answered, first_of, older_from, older}
 
 module _ (secret : List ℕ) (b : ℕ) (places : Places) where
-  -- One place more agrees.
-  pub agrees_more : (c : ℕ) → agrees secret b (get_or places c None) ≡ true → agrees_below secret b places c ≡ true → agrees_below secret b places (c + 1) ≡ true
-  agrees_more c here below = ap (agrees_below secret b places) (add-one c) ∙ (λ i. here i && below i)
-
-  -- One place that does not agree is enough.
-  pub agrees_not : (n c : ℕ) → c < n → agrees secret b (get_or places c None) ≡ false → agrees_below secret b places n ≡ false
-  agrees_not zero c h not-here = absurd (omega arith)
-  agrees_not (suc n) c h not-here =
-      ⊎_elim
-      (λ (l : c < n). and_right (agrees secret b (get_or places n None)) (agrees_below secret b places n) (agrees_not n c l not-here))
-      (λ (l : n ≤ c). let same : c ≡ n = omega arith in and_left (agrees secret b (get_or places n None)) (agrees_below secret b places n) (ap (λ m. agrees secret b (get_or places m None)) (sym same) ∙ not-here))
-      (cases_lt c n)
+  -- The places below one agree where each of them does.
+  pub agreed_below : (n : ℕ) → n ≤ length places → list_all (agrees secret b) (take n places) ≡ agrees_below secret b places n
+  agreed_below zero h = refl
+  agreed_below (suc n) h =
+      let place = get_or places n None in
+      ap (list_all (agrees secret b)) (take-suc places n None (omega arith))
+      ∙ list_all-append (agrees secret b) (take n places) (place ∷ [])
+      ∙ and_comm (list_all (agrees secret b) (take n places)) (agrees secret b place && true)
+      ∙ (λ i. and-true (agrees secret b place) i && agreed_below n (omega arith) i)
 
 module _ (places : Places) (index : ℕ) where
   abbrev pub SoFar : ℕ → Type 0

@@ -13,7 +13,7 @@ fn flip(value: [u8; 32], bit: u32) -> [u8; 32]
 {
     let mut flipped = value;
     let byte = (bit / 8) as usize;
-    flipped[byte] = value[byte] ^ (1u8 << (bit % 8));
+    flipped[byte] ^= 1u8 << (bit % 8);
     flipped
 }
 
@@ -35,6 +35,7 @@ pub fn derive(value: [u8; 32], index: u64, bits: u32) -> [u8; 32]
     ensures { result ≡ derived value index bits }
 {
     let mut derived = value;
+    // A fold would have to say of each bit that it is below 48.
     for bit in (0..bits).rev() {
         let next = turn(derived, index, bit);
         derived = next;

@@ -1,49 +1,58 @@
 // The store of the peer's secrets: 49 places keep all of them.
 ghost use Rattle.std.specs.Prelude.{◌≡◌, ◌<◌, if◌then◌else◌, Some, None};
+ghost use Rattle.std.specs.List.{list_all};
 ghost use Rattle.secrets.specs.Store.{no_secrets, place_of, agrees, answered, fits, kept, older, ComesBack, HonestFits};
 
 use crate::derivation::derive;
 use crate::known::Known;
-use octets::values::same32;
 
-#[derive(Clone, Copy)]
+// A place of the store, by how many low bits of its indices are zero.
+#[derive(Clone, Copy, Debug, PartialEq, Eq)]
+struct Place {
+    bits: u32,
+    ghost few: { bits < 49 },
+}
+
+impl Place {
+    // The place of an index.
+    fn of(index: u64) -> Place
+        ensures { result.bits ≡ place_of index }
+    {
+        Place {
+            bits: index.trailing_zeros().min(48),
+        }
+    }
+
+    // Whether a secret of this place agrees with what a lower place holds.
+    fn agrees(self, secret: [u8; 32], lower: Option<Known>) -> bool
+        ensures { result ≡ agrees secret self.bits lower }
+    {
+        lower.is_none_or(|known| derive(secret, known.index, self.bits) == known.secret)
+    }
+
+    // Whether it agrees with all lower places.
+    fn agrees_with_all(self, secret: [u8; 32], lower: &[Option<Known>]) -> bool
+        ensures { result ≡ list_all (agrees secret self.bits) lower.now }
+    {
+        lower.iter().all(|known| self.agrees(secret, *known))
+    }
+
+    // What the secret here answers for an index.
+    fn answer(self, held: Option<Known>, index: u64) -> Option<[u8; 32]>
+        ensures { result ≡ answered index self.bits held }
+    {
+        let known = held?;
+        if known.index == (index >> self.bits) << self.bits {
+            Some(derive(known.secret, index, self.bits))
+        } else {
+            None
+        }
+    }
+}
+
+#[derive(Clone, Copy, Debug, PartialEq, Eq)]
 pub struct Store {
     places: [Option<Known>; 49],
-}
-
-// The place of an index.
-fn place(index: u64) -> u32
-    ensures { result ≡ place_of index }
-{
-    index.trailing_zeros().min(48)
-}
-
-// Whether a secret of a place agrees with what a lower place holds.
-fn agrees_with(secret: [u8; 32], bits: u32, place: Option<Known>) -> bool
-    requires { bits < 49 }
-    ensures { result ≡ agrees secret bits place }
-{
-    match place {
-        Some(known) => same32(&derive(secret, known.index, bits), &known.secret),
-        None => true,
-    }
-}
-
-// What a place answers for an index.
-fn answer_of(place: Option<Known>, index: u64, bits: u32) -> Option<[u8; 32]>
-    requires { bits < 49 }
-    ensures { result ≡ answered index bits place }
-{
-    match place {
-        Some(known) => {
-            if known.index == (index >> bits) << bits {
-                Some(derive(known.secret, index, bits))
-            } else {
-                None
-            }
-        }
-        None => None,
-    }
 }
 
 impl Store {
@@ -54,17 +63,12 @@ impl Store {
         Store { places: [None; 49] }
     }
 
-    // Whether a secret fits at an index.
+    // Whether a secret fits at an index. They come apart: a revocation brings the one, its number gives the other.
     pub fn fits(&self, index: u64, secret: &[u8; 32]) -> bool
         ensures { result ≡ fits self.now.places index secret.now }
     {
-        let bits = place(index);
-        for lower in 0..bits {
-            if !agrees_with(*secret, bits, self.places[lower as usize]) {
-                return false;
-            }
-        }
-        true
+        let place = Place::of(index);
+        place.agrees_with_all(*secret, &self.places[..place.bits as usize])
     }
 
     // Keeps a secret at its index; one that does not fit alters nothing.
@@ -75,7 +79,7 @@ impl Store {
         if !self.fits(index, secret) {
             return false;
         }
-        self.places[place(index) as usize] = Some(Known {
+        self.places[Place::of(index).bits as usize] = Some(Known {
             index,
             secret: *secret,
         });
@@ -86,8 +90,9 @@ impl Store {
     pub fn get(&self, index: u64) -> Option<[u8; 32]>
         ensures { result ≡ older self.now.places index }
     {
-        for bits in 0..49u32 {
-            if let Some(secret) = answer_of(self.places[bits as usize], index, bits) {
+        for (bits, held) in self.places.iter().enumerate() {
+            let place = Place { bits: bits as u32 };
+            if let Some(secret) = place.answer(*held, index) {
                 return Some(secret);
             }
         }

@@ -40,10 +40,7 @@ const WRONG_6: &[u8; 64] = b"e7971de736e01da8ed58b94c2fc216cb1dca9e326f3a96e7194
 const WRONG_7: &[u8; 64] = b"a7efbc61aac46d34f77778bac22c8a20c6a46ca460addc49009bda875ec88fa4";
 
 fn value(digits: &[u8; 64]) -> Result<[u8; 32], Fail> {
-    match decode_value(digits) {
-        Some(value) => Ok(value),
-        None => Err(Fail::new("not a value")),
-    }
+    decode_value(digits).ok_or_else(|| Fail::new("not a value"))
 }
 
 fn derives(rt: &impl Abort, seed: u8, index: u64, digits: &[u8; 64]) -> Result<(), Fail> {
@@ -108,12 +105,8 @@ fn come_back(
     secrets: &[&[u8; 64]],
     taken: u64,
 ) -> Result<(), Fail> {
-    let mut number: u64 = 0;
-    for digits in secrets {
-        if number < taken {
-            assert!(rt; answers(store, number, digits)?);
-        }
-        number = number.saturating_add(1);
+    for (number, digits) in (0..taken).zip(secrets) {
+        assert!(rt; answers(store, number, digits)?);
     }
     Ok(())
 }

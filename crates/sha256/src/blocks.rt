@@ -4,7 +4,7 @@ ghost use Rattle.sha256.specs.Fips.{compressed, padding, hash_value, hash};
 
 use crate::rounds::eight;
 use crate::words::added;
-use octets::numbers::to_bytes4;
+use octets::numbers::Number;
 
 // The hash value before the first block.
 pub fn initial_value() -> [u32; 8]
@@ -40,6 +40,6 @@ pub fn digest_of(value: [u32; 8]) -> [u8; 32]
     ensures { (m : List ℕ) → value ≡ hash_value (m ++ padding (length m)) → result ≡ hash m }
 {
     let mut out = [0; 32];
-    out.copy_from_slice(value.map(to_bytes4).as_flattened());
+    out.copy_from_slice(value.map(u32::to_bytes).as_flattened());
     out
 }

@@ -4,9 +4,10 @@ ghost use Rattle.sha256.specs.Fips.{hash, padding};
 ghost use Rattle.sha256.specs.Stream.{Absorbed};
 
 use crate::blocks::{compress, digest_of, initial_value};
-use octets::numbers::to_bytes8;
+use octets::numbers::Number;
 
 // The count of bytes is kept modulo 2^64: the place in the block and the length in bits need no more.
+// The block and the count stand side by side, since the count is of all bytes that were taken in.
 #[derive(Clone, Copy, Debug)]
 pub struct Hasher {
     state: [u32; 8],
@@ -52,7 +53,7 @@ impl Hasher {
         mark[0] = 0x80;
         let mut ended = *self;
         ended.absorb(&mark[..mark_length((self.total % 64) as usize)]);
-        ended.absorb(&to_bytes8(self.total << 3));
+        ended.absorb(&(self.total << 3).to_bytes());
         ended
     }
 

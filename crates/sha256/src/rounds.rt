@@ -1,4 +1,5 @@
-// The rounds of a block, eight at a time: after eight each working variable is back in its place.
+// The rounds of a block, eight at a time, which the compiler lays out faster than single ones. Variables, schedule and block
+// come apart, since a round changes two of them and reads the third.
 ghost use Rattle.std.specs.Prelude.{ℕ, ◌+◌, ◌<◌, ◌≤◌, List};
 ghost use Rattle.sha256.specs.Rounds.{Turned};
 

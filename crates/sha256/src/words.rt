@@ -1,8 +1,8 @@
 // The functions and constants of SHA-256 on words of 32 bits.
-ghost use Rattle.std.specs.Prelude.{◌≡◌, ◌/◌, ◌^◌, ◌<◌, ◌≤◌, bit_xor, take};
+ghost use Rattle.std.specs.Prelude.{◌≡◌, ◌/◌, ◌^◌, ◌<◌, bit_xor, take};
 ghost use Rattle.sha256.specs.Fips.{rotr, ch, maj, word, round, sums};
 
-use octets::numbers::read_u32;
+use octets::numbers::Number;
 use std::array;
 
 // K: one for each round.
@@ -111,7 +111,7 @@ pub fn word(block: &[u8; 64], w: &[u32; 64], t: usize) -> u32
     ensures { result ≡ word block.now (take t w.now) t }
 {
     if t < 16 {
-        read_u32(block, 4 * t)
+        u32::read(block, 4 * t)
     } else {
         small_sigma::<17, 19, 10>(w[t - 2])
             .wrapping_add(w[t - 7])

@@ -16,9 +16,9 @@ returns g c =
     let funders = kind.terms.written (kind.asset h.funders) in
     let others = kind.terms.written (kind.asset h.others) in
     let count = bytes_of 2 h.pending in
-    puts_then took _ _ _ number (holder ++ (rate ++ (fee ++ (funders ++ (others ++ count))))) c.put_u64.ensures
+    puts_then took _ _ _ number (holder ++ (rate ++ (fee ++ (funders ++ (others ++ count))))) c.put_number.ensures
     (puts_then took _ _ _ holder (rate ++ (fee ++ (funders ++ (others ++ count)))) c.put_side.ensures
-    (puts_then took _ _ _ rate (fee ++ (funders ++ (others ++ count))) c.put_u32.ensures
+    (puts_then took _ _ _ rate (fee ++ (funders ++ (others ++ count))) c.put_number-2.ensures
     (puts_then took _ _ _ fee (funders ++ (others ++ count)) c.put_money.ensures
     (puts_then took _ _ _ funders (others ++ count) c.put_money-2.ensures
-    (puts_then took _ _ _ others count c.put_money-3.ensures c.put_u16.ensures)))))
+    (puts_then took _ _ _ others count c.put_money-3.ensures c.put_number-3.ensures)))))

@@ -13,6 +13,6 @@ returns g c =
     let value = c.args.value.now in
     let expiry = bytes_of 4 c.args.expiry in
     puts_then took _ _ _ (side_byte c.args.side ∷ []) (id ++ (amount ++ (value ++ expiry))) c.put_side.ensures
-    (puts_then took _ _ _ id (amount ++ (value ++ expiry)) c.put_u16.ensures
+    (puts_then took _ _ _ id (amount ++ (value ++ expiry)) c.put_number.ensures
     (puts_then took _ _ _ amount (value ++ expiry) c.put_money.ensures
-    (puts_then took _ _ _ value expiry c.put.ensures c.put_u32.ensures)))
+    (puts_then took _ _ _ value expiry c.put.ensures c.put_number-2.ensures)))

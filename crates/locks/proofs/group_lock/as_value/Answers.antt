@@ -3,4 +3,4 @@ use Rattle.locks.proofs.group_lock.as_value.Goals as goal
 
 pub returns : goal.returns
 unfolding over
-returns c = c.put_u64.ensures
+returns c = c.put_number.ensures

@@ -17,8 +17,8 @@ returns g c =
     let wide : c.byte_width-width.result ≡ width = c.byte_width-width.ensures in
     let amount_long : length amount ≡ width = g.met.M.Money.long c.args.amount.now in
     let value_long : length value ≡ 32 = omega arith in
-    let start = over_next out (bytes_of 2 128) id 2 refl c.put_u16.ensures c.put_u16-2.ensures in
+    let start = over_next out (bytes_of 2 128) id 2 refl c.put_kind.ensures c.put_number.ensures in
     let third = over_next out (bytes_of 2 128 ++ id) amount 4 refl start c.write.ensures in
     let fourth = over_next out ((bytes_of 2 128 ++ id) ++ amount) value (4 + c.byte_width-width.result) (omega arith) third c.put.ensures in
-    let whole = over_next out (((bytes_of 2 128 ++ id) ++ amount) ++ value) expiry (36 + c.byte_width-width.result) (simp length-append (omega arith)) fourth c.put_u32.ensures in
+    let whole = over_next out (((bytes_of 2 128 ++ id) ++ amount) ++ value) expiry (36 + c.byte_width-width.result) (simp length-append (omega arith)) fourth c.put_number-2.ensures in
     record { bytes = whole ∙ ap (over out 0) (simp append_assoc); long = simp length-append (omega arith) }

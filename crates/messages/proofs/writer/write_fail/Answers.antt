@@ -6,4 +6,4 @@ use Rattle.messages.proofs.writer.write_fail.Goals as goal
 pub returns : goal.returns
 returns c =
     let out = c.args.out.now in
-    record { bytes = over_next out (bytes_of 2 131) (bytes_of 2 c.args.id) 2 refl c.put_u16.ensures c.put_u16-2.ensures; long = refl }
+    record { bytes = over_next out (bytes_of 2 131) (bytes_of 2 c.args.id) 2 refl c.put_kind.ensures c.put_number.ensures; long = refl }

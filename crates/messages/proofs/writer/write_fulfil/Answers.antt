@@ -9,5 +9,5 @@ returns c =
     let id = bytes_of 2 c.args.id in
     let key = c.args.key.now in
     let whole : length key ≡ 32 = omega arith in
-    let start = over_next out (bytes_of 2 130) id 2 refl c.put_u16.ensures c.put_u16-2.ensures in
+    let start = over_next out (bytes_of 2 130) id 2 refl c.put_kind.ensures c.put_number.ensures in
     record { bytes = over_next out (bytes_of 2 130 ++ id) key 4 refl start c.put.ensures; long = omega arith }

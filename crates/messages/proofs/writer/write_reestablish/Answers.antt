@@ -8,5 +8,5 @@ returns c =
     let out = c.args.out.now in
     let commitment = bytes_of 8 c.args.commitment in
     let revocation = bytes_of 8 c.args.revocation in
-    let start = over_next out (bytes_of 2 136) commitment 2 refl c.put_u16.ensures c.put_u64.ensures in
-    record { bytes = over_next out (bytes_of 2 136 ++ commitment) revocation 10 refl start c.put_u64-2.ensures; long = refl }
+    let start = over_next out (bytes_of 2 136) commitment 2 refl c.put_kind.ensures c.put_number.ensures in
+    record { bytes = over_next out (bytes_of 2 136 ++ commitment) revocation 10 refl start c.put_number-2.ensures; long = refl }

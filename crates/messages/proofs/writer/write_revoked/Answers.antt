@@ -11,7 +11,7 @@ returns c =
     let point = c.args.point.now in
     let whole : length secret ≡ 32 = omega arith in
     let next : length point ≡ 32 = omega arith in
-    let start = over_next out (bytes_of 2 133) secret 2 refl c.put_u16.ensures c.put.ensures in
+    let start = over_next out (bytes_of 2 133) secret 2 refl c.put_kind.ensures c.put.ensures in
     record {
       bytes = over_next out (bytes_of 2 133 ++ secret) point 34 (omega arith) start c.put-2.ensures;
       long = simp length-append (omega arith);

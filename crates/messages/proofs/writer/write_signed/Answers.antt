@@ -8,4 +8,4 @@ returns c =
     let out = c.args.out.now in
     let signature = c.args.signature.now in
     let whole : length signature ≡ 32 = omega arith in
-    record { bytes = over_next out (bytes_of 2 132) signature 2 refl c.put_u16.ensures c.put.ensures; long = omega arith }
+    record { bytes = over_next out (bytes_of 2 132) signature 2 refl c.put_kind.ensures c.put.ensures; long = omega arith }

@@ -5,7 +5,7 @@ use Rattle.sha256.proofs.words.word.Goals as goal
 
 pub returns-then-t-lt16 : goal.returns-then-t-lt16
 unfolding word
-returns-then-t-lt16 c = rw (lt-ltb c.args.t 16 (omega arith)) c.read_u32.ensures
+returns-then-t-lt16 c = rw (lt-ltb c.args.t 16 (omega arith)) c.read.ensures
 
 pub returns-else-t-lt16 : goal.returns-else-t-lt16
 unfolding word mixed

@@ -7,5 +7,5 @@ unfolding kept
 returns c =
     record {
       answer = search rules;
-      after = ap (λ n. set c.args.self.now.places n (Some (record { index = c.args.index; secret = c.args.secret.now }))) c.place.ensures;
+      after = ap (λ n. set c.args.self.now.places n (Some (record { index = c.args.index; secret = c.args.secret.now }))) c.of.ensures;
     }
