@@ -79,5 +79,14 @@ if [ "$(cat "$work/errors")" != "relay: cannot read $work/book: No such file or 
   failed=1
 fi
 
+# What an error says is cut at 120 bytes.
+absent="$work/$(printf 'x%.0s' $(seq 150))"
+whole="cannot read $absent: No such file or directory (os error 2)"
+"$program" "$absent" >"$work/printed" 2>"$work/errors"
+if [ "$?" != 1 ] || [ -s "$work/printed" ] || [ "$(cat "$work/errors")" != "relay: ${whole:0:117}..." ]; then
+  echo "books: a file that is not there, by a long name: $(cat "$work/errors")"
+  failed=1
+fi
+
 [ "$failed" = 0 ] && echo "books: all as expected"
 exit "$failed"

@@ -1,7 +1,7 @@
 // Reads a book of commands, and prints its pages and a statement.
 #![tactic(auto)]
 
-use anyhow::Context;
+use anyhow::anyhow;
 use commands::command::Command;
 use commands::fault::Fault;
 use commands::parse::parse;
@@ -13,9 +13,9 @@ use std::io::Read;
 use std::process::ExitCode;
 use std::{env, fs};
 
-// The bytes of a file; the error names it.
+// The bytes of a file; the error names it, in one text with the cause, since a long one is cut at its end.
 fn read_file(rt: &HostRuntime, path: &str) -> anyhow::Result<Vec<u8>> {
-    fs::read(rt, path).context(format_args!("cannot read {path}"))
+    fs::read(rt, path).map_err(|error| anyhow!("cannot read {path}: {error}"))
 }
 
 // The file that the first argument names, or standard input.
@@ -98,7 +98,7 @@ fn main(rt: HostRuntime) -> ExitCode {
         Ok(false) => ExitCode::FAILURE,
         Err(error) => {
             // where this cannot be written either, the exit code tells
-            let _told = eprintln!(rt; "relay: {error:#}");
+            let _told = eprintln!(rt; "relay: {error}");
             ExitCode::FAILURE
         }
     }
