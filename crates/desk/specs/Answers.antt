@@ -15,7 +15,9 @@ use Rattle.refusals.specs.Refusals.{refusal_text}
 use Rattle.refusals.specs.declared.reason.Reason.TheVariants.{Unreadable, OutOfBounds}
 use Rattle.sha256.specs.Fips.{hash}
 use Rattle.desk.specs.declared.answer.Decline.{Decline}
-use Rattle.desk.specs.declared.answer.Decline.TheVariants.{Refused, NotMade, NoMemory}
+use Rattle.desk.specs.declared.answer.Decline.TheVariants.{Refused, NotMade}
+use Rattle.desk.specs.declared.answer.Unanswered.{Unanswered}
+use Rattle.desk.specs.declared.answer.Unanswered.TheVariants.{Declined, NoMemory}
 use Rattle.desk.specs.NamedLocks.{meaning_of, Makeable}
 use Rattle.desk.specs.Texts.{amount_text, content_text}
 
@@ -27,13 +29,11 @@ Reply = Result (String Global) Decline
 abbrev pub decline_text : Decline → List ℕ
 decline_text (Refused refusal) = refusal_text refusal
 decline_text (NotMade reason) = codes "declined " ++ decimal (reason_number reason)
-decline_text NoMemory = codes "memory is wanting"
 
 -- What is said is what a question asks, unless memory is wanting.
-abbrev pub Answers : (Reply → Type 0) → Reply → Type 0
+abbrev pub Answers : (Reply → Type 0) → Result (String Global) Unanswered → Type 0
 Answers Asked (Ok text) = Asked (Ok text)
-Answers Asked (Err (Refused refusal)) = Asked (Err (Refused refusal))
-Answers Asked (Err (NotMade reason)) = Asked (Err (NotMade reason))
+Answers Asked (Err (Declined decline)) = Asked (Err decline)
 Answers Asked (Err NoMemory) = Unit {0}
 
 -- The amount that bytes of the money's width stand for, unless it passes the limit.

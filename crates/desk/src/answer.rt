@@ -1,8 +1,9 @@
-// The answer to a question: a text, or why it is declined.
+// The answer to a question: a text, or why it is declined. Want of memory is none.
 ghost use Rattle.std.specs.Prelude.{◌≡◌, Some};
 ghost use Rattle.messages.specs.Faults.{message_refusal};
 ghost use Rattle.desk.specs.Answers.{decline_text};
-ghost use Rattle.desk.specs.declared.answer.Decline.TheVariants.{Refused, NotMade, NoMemory};
+ghost use Rattle.desk.specs.declared.answer.Decline.TheVariants.{Refused, NotMade};
+ghost use Rattle.desk.specs.declared.answer.Unanswered.TheVariants.{Declined, NoMemory};
 
 use messages::fault::MessageFault;
 use refusals::reason::Reason;
@@ -19,8 +20,6 @@ pub enum Decline {
     Refused(Refusal),
     // A lock cannot be made, where no channel is concerned.
     NotMade(Reason),
-    // Memory is wanting: no answer to the question.
-    NoMemory,
 }
 
 impl From<MessageFault> for Decline {
@@ -39,14 +38,6 @@ impl From<Reason> for Decline {
     }
 }
 
-impl From<AllocError> for Decline {
-    ghost from_gives = { λ _ decline. decline ≡ NoMemory };
-
-    fn from(_error: AllocError) -> Decline {
-        Decline::NoMemory
-    }
-}
-
 impl fmt::Display for Decline {
     ghost output = { λ decline. Some (decline_text decline) };
 
@@ -57,9 +48,39 @@ impl fmt::Display for Decline {
                 let number = reason.number();
                 write!(f, "declined {number}")
             }
-            Decline::NoMemory => f.write_str("memory is wanting"),
         }
     }
 }
 
 impl Error for Decline {}
+
+// Why a question has no text: it is declined, or memory is wanting, and then there is no answer at all.
+#[derive(Clone, Copy, Debug, PartialEq, Eq)]
+pub enum Unanswered {
+    Declined(Decline),
+    NoMemory,
+}
+
+impl From<MessageFault> for Unanswered {
+    ghost from_gives = { λ fault unanswered. unanswered ≡ Declined (Refused (message_refusal fault)) };
+
+    fn from(fault: MessageFault) -> Unanswered {
+        Unanswered::Declined(Decline::from(fault))
+    }
+}
+
+impl From<Reason> for Unanswered {
+    ghost from_gives = { λ reason unanswered. unanswered ≡ Declined (NotMade reason) };
+
+    fn from(reason: Reason) -> Unanswered {
+        Unanswered::Declined(Decline::from(reason))
+    }
+}
+
+impl From<AllocError> for Unanswered {
+    ghost from_gives = { λ _ unanswered. unanswered ≡ NoMemory };
+
+    fn from(_error: AllocError) -> Unanswered {
+        Unanswered::NoMemory
+    }
+}

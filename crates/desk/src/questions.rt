@@ -6,7 +6,7 @@ ghost use Rattle.desk.specs.Answers.{Answers, ReadSaid, OpensSaid, CarrySaid, Sa
 ghost use Rattle.desk.specs.NamedLocks.{meaning_of};
 
 use crate::amount::Show;
-use crate::answer::Answer;
+use crate::answer::{Answer, Unanswered};
 use crate::named_lock::NamedLock;
 use crate::text::message_text;
 use commands::command::{Command, LockName};
@@ -25,7 +25,11 @@ pub fn answer_sha(heap: Global, message: &[u8]) -> Result<String, AllocError>
 }
 
 // What a message says.
-pub fn answer_read<M: Show>(heap: Global, channel: u64, message: &[u8]) -> Answer
+pub fn answer_read<M: Show>(
+    heap: Global,
+    channel: u64,
+    message: &[u8],
+) -> Result<String, Unanswered>
     ensures { Answers (ReadSaid M.Money.terms M.Show.shown channel message.now) result }
 {
     let message = read::<M>(channel, message)?;
@@ -33,7 +37,12 @@ pub fn answer_read<M: Show>(heap: Global, channel: u64, message: &[u8]) -> Answe
 }
 
 // Whether a key opens a lock value.
-pub fn answer_opens(heap: Global, name: LockName, key: &[u8; 32], value: &[u8; 32]) -> Answer
+pub fn answer_opens(
+    heap: Global,
+    name: LockName,
+    key: &[u8; 32],
+    value: &[u8; 32],
+) -> Result<String, Unanswered>
     ensures { Answers (OpensSaid name key.now value.now) result }
 {
     let lock = NamedLock::try_from(name)?;
@@ -42,7 +51,12 @@ pub fn answer_opens(heap: Global, name: LockName, key: &[u8; 32], value: &[u8; 3
 }
 
 // A key carried by a tweak.
-pub fn answer_carry_key(heap: Global, name: LockName, key: &[u8; 32], tweak: &[u8; 32]) -> Answer
+pub fn answer_carry_key(
+    heap: Global,
+    name: LockName,
+    key: &[u8; 32],
+    tweak: &[u8; 32],
+) -> Result<String, Unanswered>
     ensures { Answers (CarrySaid name ((meaning_of name).carried_key key.now tweak.now)) result }
 {
     let lock = NamedLock::try_from(name)?;
@@ -56,15 +70,15 @@ pub fn answer_carry_value(
     name: LockName,
     value: &[u8; 32],
     tweak: &[u8; 32],
-) -> Answer
+) -> Result<String, Unanswered>
     ensures { Answers (CarrySaid name ((meaning_of name).carried_value value.now tweak.now)) result }
 {
     let lock = NamedLock::try_from(name)?;
     Ok(hex::encode(heap, &lock.carry_value(value, tweak))?)
 }
 
-// The answer to a command; amounts are in satoshi.
-pub fn answer(heap: Global, command: &Command) -> Answer
+// The text for a command; amounts are in satoshi.
+fn text(heap: Global, command: &Command) -> Result<String, Unanswered>
     ensures { Answers (Said command.now) result }
 {
     match command {
@@ -73,5 +87,16 @@ pub fn answer(heap: Global, command: &Command) -> Answer
         Command::Opens { lock, key, value } => answer_opens(heap, *lock, key, value),
         Command::CarryKey { lock, key, tweak } => answer_carry_key(heap, *lock, key, tweak),
         Command::CarryValue { lock, value, tweak } => answer_carry_value(heap, *lock, value, tweak),
+    }
+}
+
+// The answer to a command. An answer has a page and counts in the statement, so want of memory comes beside it.
+pub fn answer(heap: Global, command: &Command) -> Result<Answer, AllocError>
+    ensures { IfOk result (λ a. Said command.now a) }
+{
+    match text(heap, command) {
+        Ok(text) => Ok(Ok(text)),
+        Err(Unanswered::Declined(decline)) => Ok(Err(decline)),
+        Err(Unanswered::NoMemory) => Err(AllocError),
     }
 }

@@ -38,7 +38,7 @@ fn blanks_and_comments_are_passed_over(rt: HostRuntime) {
 // What the desk says to a line.
 fn said(heap: Global, line: &[u8]) -> Result<String, Fail> {
     let command = parse(heap, line)?.ok_or("passed over")?;
-    match answer(heap, &command) {
+    match answer(heap, &command)? {
         Ok(text) => Ok(text),
         Err(decline) => Ok(decline.to_string(heap)?),
     }

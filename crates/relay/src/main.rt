@@ -5,7 +5,6 @@ use anyhow::anyhow;
 use commands::command::Command;
 use commands::fault::Fault;
 use commands::parse::parse;
-use desk::answer::Decline;
 use desk::pages::{Page, Statement, name};
 use desk::questions::answer;
 use notation::lines::Lines;
@@ -38,10 +37,7 @@ fn print_page(
     statement: &mut Statement,
     command: &Command,
 ) -> anyhow::Result<()> {
-    let answer = answer(rt.alloc(), command);
-    if let Err(decline @ Decline::NoMemory) = answer {
-        return Err(decline.into());
-    }
+    let answer = answer(rt.alloc(), command)?;
     statement.enter(&answer);
     let page = Page {
         number: statement.pages(),
