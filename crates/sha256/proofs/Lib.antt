@@ -1,3 +1,4 @@
 pub mod Arrays
+pub mod Digests
 pub mod Streams
 pub mod Turns
