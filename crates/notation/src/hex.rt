@@ -1,7 +1,7 @@
 // Bytes as hex digits.
-ghost use Rattle.std.specs.Prelude.{◌≡◌, ◌+◌, ◌*◌, ◌<◌, length, Some, IfSome, IfOk, vec_items, string_bytes};
+ghost use Rattle.std.specs.Prelude.{◌≡◌, ◌+◌, ◌*◌, ◌<◌, [], ◌∷◌, length, Some, IfSome, IfOk, vec_items, string_bytes};
 ghost use Rattle.std.specs.Option.{option_map};
-ghost use Rattle.notation.specs.Hex.{digit_number, hex_of, byte_of, bytes_from, value_from, HexReadsBack};
+ghost use Rattle.notation.specs.Hex.{digit_number, digit_of, hex_of, byte_of, bytes_from, value_from, HexReadsBack};
 
 use std::alloc::{AllocError, Global};
 use std::fmt;
@@ -65,6 +65,31 @@ pub fn decode_value(digits: &[u8]) -> Option<[u8; 32]>
     Some(value)
 }
 
+// The digit of a number below 16, as a text.
+fn digit(number: u8) -> &'static str
+    requires { number < 16 }
+    ensures { result.now ≡ digit_of number ∷ [] }
+{
+    match number {
+        0 => "0",
+        1 => "1",
+        2 => "2",
+        3 => "3",
+        4 => "4",
+        5 => "5",
+        6 => "6",
+        7 => "7",
+        8 => "8",
+        9 => "9",
+        10 => "a",
+        11 => "b",
+        12 => "c",
+        13 => "d",
+        14 => "e",
+        _ => "f",
+    }
+}
+
 // Bytes that print as their digits, in lower case.
 #[derive(Clone, Copy, Debug, PartialEq, Eq)]
 pub struct Hex<'a>(pub &'a [u8]);
@@ -73,8 +98,10 @@ impl fmt::Display for Hex<'_> {
     ghost output = { λ hex. Some (hex_of hex.0.now) };
 
     fn fmt<W: fmt::Write>(&self, f: &mut fmt::Formatter<W>) -> fmt::Result {
+        // The library's format of a byte, `{byte:02x}`, takes several times as long.
         for &byte in self.0 {
-            write!(f, "{byte:02x}")?;
+            f.write_str(digit(byte / 16))?;
+            f.write_str(digit(byte % 16))?;
         }
         Ok(())
     }

@@ -1,7 +1,9 @@
 // Lines, and the words in them. A text is bytes here: what is no UTF-8 is the fault of one line, not of the whole book.
 ghost use Rattle.std.specs.Prelude.{◌≡◌, ◌<◌, length};
 ghost use Rattle.std.specs.Iterator.{at_most};
-ghost use Rattle.notation.specs.Lines.{is_blank, first_line, later_lines, NextLine, without_return, Splits, passed_over, printable};
+ghost use Rattle.notation.specs.Lines.{all_pass, is_blank, is_printable, first_line, later_lines, NextLine, without_return, Splits, passed_over, printable};
+
+use memchr::memchr;
 
 // Words are separated by spaces and tabs.
 fn is_blank(byte: u8) -> bool
@@ -10,13 +12,20 @@ fn is_blank(byte: u8) -> bool
     matches!(byte, b' ' | b'\t')
 }
 
+// What a line may hold: printable characters and tabs.
+fn is_character(byte: u8) -> bool
+    ensures { result ≡ is_printable byte }
+{
+    matches!(byte, b' '..=b'~' | b'\t')
+}
+
 // The first line of a text, and what stands behind it.
 pub fn split_line(text: &[u8]) -> (&[u8], &[u8])
     ensures line { result.0.now ≡ first_line text.now }
     ensures rest { result.1.now ≡ later_lines text.now }
     ensures shorter { 0 < length text.now → length result.1.now < length text.now }
 {
-    match text.iter().position(|byte| *byte == b'\n') {
+    match memchr(b'\n', text) {
         Some(end) => (&text[..end], &text[end + 1..]),
         None => (text, &[]),
     }
@@ -73,16 +82,24 @@ pub fn split_word(line: &[u8]) -> Option<(&[u8], &[u8])>
     Some(words.split_at(end))
 }
 
+// Whether a line has blanks alone.
+fn is_empty(line: &[u8]) -> bool
+    ensures { result ≡ all_pass is_blank line.now }
+{
+    line.iter().all(|byte| is_blank(*byte))
+}
+
 // Whether a line is empty or a comment.
+#[tactic(auto, using(crate::proofs::Fronts::first_is))]
 pub fn is_passed_over(line: &[u8]) -> bool
     ensures { result ≡ passed_over line.now }
 {
-    line.starts_with(b"#") || line.iter().all(|byte| is_blank(*byte))
+    line.starts_with(b"#") || is_empty(line)
 }
 
 // Whether a line has printable characters and tabs alone.
 pub fn is_printable(line: &[u8]) -> bool
     ensures { result ≡ printable line.now }
 {
-    line.iter().all(|byte| matches!(byte, b' '..=b'~' | b'\t'))
+    line.iter().all(|byte| is_character(*byte))
 }
