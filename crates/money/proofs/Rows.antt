@@ -1,5 +1,5 @@
 -- Rows of numbers asset by asset: what a function fills them with, and what a test of each asset says of the amounts.
-use Rattle.std.specs.Prelude.{◌≡◌, ℕ, zero, suc, ◌+◌, ◌<◌, ◌≤◌, Bool, true, false, ◌&&◌, List, [], ◌∷◌, length, nat_le, cond, Some, None, Option, slice_index, refl}
+use Rattle.std.specs.Prelude.{◌≡◌, ℕ, zero, suc, ◌+◌, ◌<◌, ◌≤◌, Bool, true, false, ◌&&◌, List, [], ◌∷◌, length, nat_le, cond, min, ◌==◌, Some, None, Option, slice_index, refl}
 use Rattle.std.proofs.Common.{sym, ap, ◌∙◌, ⊎_elim, subst, arith}
 use Rattle.std.proofs.Math.Path.{fun_ext}
 use Rattle.std.proofs.lemmas.Bool.{cases_lt}
@@ -8,7 +8,7 @@ use Rattle.std.specs.Array.{IsFromFnResultFrom}
 use Rattle.std.specs.Fn.{Called, Mut}
 use Rattle.std.specs.Option.{option_map}
 use Rattle.std.specs.List.{list_all, zip}
-use Rattle.money.specs.Amounts.{Amount, row, contains, limited}
+use Rattle.money.specs.Amounts.{Amount, row, contains, limited, units_from}
 use Rattle.money.specs.declared.counts.Counts.{Counts}
 use Rattle.money.proofs.Contains.{contains_decides}
 
@@ -58,6 +58,14 @@ row_is n xs h long here past = fun_ext (λ k. ⊎_elim (here k) (λ (l : n ≤ k
 -- What a test of each asset says of a whole row.
 pub row_within : (n limit : ℕ) (xs : List ℕ) → length xs ≡ n → contains n (λ _. limit) (row xs) ≡ true → (k : ℕ) → slice_index xs k ≤ limit
 row_within n limit xs long e k = ⊎_elim (λ (l : k < n). (contains_decides n (λ _. limit) (row xs)).0 e k l) (λ (l : n ≤ k). let none = get_or_past xs k 0 (omega arith) in omega arith) (cases_lt k n)
+
+-- Units from a balance are never more than it holds.
+pub units_within : (units : ℕ) (balance : Amount) (k : ℕ) → units_from units balance k ≤ balance k
+units_within units balance k = by (k == 0)
+  where
+    by : (b : Bool) → cond b (min units (balance k)) 0 ≤ balance k
+    by true = omega arith
+    by false = omega arith
 
 -- A value of one asset is what its row holds at the front.
 pub single_of : (r : Option (Counts 1)) → option_map (λ s. slice_index s.counts 0) r ≡ option_map (λ f. f 0) (option_map (λ c. row c.counts) r)

@@ -72,6 +72,18 @@ fn numbers_of<const N: usize>(bytes: &[u8]) -> [u64; N]
     )
 }
 
+// So many units of the first asset, as far as a row holds them, and none of the others.
+fn units_of<const N: usize>(count: u64, held: &[u64; N]) -> [u64; N]
+    ensures { row result ≡ units_from count (row held.now) }
+{
+    array::from_fn(
+        |i: usize| -> u64
+            requires { i < N }
+            ensures { result ≡ units_from count (row held.entry.now) i }
+        { if i == 0 { count.min(held[0]) } else { 0 } },
+    )
+}
+
 impl<const N: usize> Counts<N> {
     // A value, unless an asset passes the limit.
     pub(crate) fn of(counts: [u64; N]) -> Option<Counts<N>>
@@ -116,12 +128,11 @@ impl<const N: usize> Counts<N> {
 
     // So many units of the first asset, as far as a balance holds them.
     pub(crate) fn capped(count: u64, balance: &Counts<N>) -> Counts<N>
-        requires { 0 < N }
         ensures { row result.counts ≡ units_from count (row balance.now.counts) }
     {
-        let mut counts = [0; N];
-        counts[0] = count.min(balance.counts[0]);
-        Counts { counts }
+        Counts {
+            counts: units_of(count, &balance.counts),
+        }
     }
 
     // Writes eight bytes an asset from a place on.

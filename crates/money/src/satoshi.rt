@@ -15,6 +15,7 @@ pub type Satoshi = Counts<1>;
 
 impl Counts<1> {
     // A value, unless it passes the limit.
+    #[tactic(auto, using(crate::proofs::Rows::single_of, crate::proofs::Rows::single_limited))]
     pub fn new(value: u64) -> Option<Satoshi>
         ensures { option_map (λ s. slice_index s.counts 0) result ≡ (if nat_le value eights_limit then Some value else None) }
     {
