@@ -1,5 +1,4 @@
 pub mod Fees
 pub mod Fills
-pub mod Heads
 pub mod Listing
 pub mod Sizes

@@ -18,6 +18,7 @@ use money::kind::Money;
 use sha256::hasher::Hasher;
 
 // A heading, then the funder's pending payments, then the other side's.
+#[tactic(auto, using(crate::proofs::Fills::puts_then))]
 pub fn put_headed<M: Money, S: Sink>(
     sink: &mut S,
     heading: &Heading<M>,
