@@ -1,9 +1,14 @@
 -- Hex digits two by two.
 use Rattle.std.proofs.Common.{◌≡◌, ℕ, suc, ◌+◌, ◌*◌, ◌/◌, ◌%◌, ◌<◌, ◌≤◌, List, [], ◌∷◌, ◌++◌, length, get_or, take, drop, Some, None, Option, sym, refl, ap, ◌∙◌, arith}
-use Rattle.std.proofs.lemmas.List.{append_assoc, append-nil}
+use Rattle.std.proofs.lemmas.List.{take_more, flat_map_more, append_assoc, append-nil}
 use Rattle.std.proofs.lemmas.Bool.Decides.{nat_tests}
 use Rattle.octets.specs.Numbers.{Bytes}
 use Rattle.notation.specs.Hex.{digit_number, digit_of, hex_of, byte_of, before, bytes_from}
+
+-- The digits of one byte more.
+pub hex_more : (bs : List ℕ) (i : ℕ) → i < length bs → hex_of (take (i + 1) bs) ≡ hex_of (take i bs) ++ (digit_of (get_or bs i 0 / 16) ∷ digit_of (get_or bs i 0 % 16) ∷ [])
+hex_more bs i h =
+    ap hex_of (take_more bs i 0 h) ∙ sym (flat_map_more (λ (b : ℕ). digit_of (b / 16) ∷ digit_of (b % 16) ∷ []) [] (take i bs) (get_or bs i 0))
 
 digit_back : (n : ℕ) → n < 16 → digit_number (digit_of n) ≡ Some n
 digit_back n h = grind (arith, nat_tests)
