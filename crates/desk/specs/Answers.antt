@@ -30,6 +30,11 @@ abbrev pub decline_text : Decline → List ℕ
 decline_text (Refused refusal) = refusal_text refusal
 decline_text (NotMade reason) = codes "declined " ++ decimal (reason_number reason)
 
+-- What is said where there is no text: what the decline says, or that memory is wanting.
+abbrev pub unanswered_text : Unanswered → List ℕ
+unanswered_text (Declined decline) = decline_text decline
+unanswered_text NoMemory = codes "memory is wanting"
+
 -- What is said is what a question asks, unless memory is wanting.
 abbrev pub Answers : (Reply → Type 0) → Result (String Global) Unanswered → Type 0
 Answers Asked (Ok text) = Asked (Ok text)

@@ -1,7 +1,7 @@
 // The answer to a question: a text, or why it is declined. Want of memory is none.
 ghost use Rattle.std.specs.Prelude.{◌≡◌, Some};
 ghost use Rattle.messages.specs.Faults.{message_refusal};
-ghost use Rattle.desk.specs.Answers.{decline_text};
+ghost use Rattle.desk.specs.Answers.{decline_text, unanswered_text};
 ghost use Rattle.desk.specs.declared.answer.Decline.TheVariants.{Refused, NotMade};
 ghost use Rattle.desk.specs.declared.answer.Unanswered.TheVariants.{Declined, NoMemory};
 
@@ -84,3 +84,16 @@ impl From<AllocError> for Unanswered {
         Unanswered::NoMemory
     }
 }
+
+impl fmt::Display for Unanswered {
+    ghost output = { λ unanswered. Some (unanswered_text unanswered) };
+
+    fn fmt<W: fmt::Write>(&self, f: &mut fmt::Formatter<W>) -> fmt::Result {
+        match self {
+            Unanswered::Declined(decline) => write!(f, "{decline}"),
+            Unanswered::NoMemory => f.write_str("memory is wanting"),
+        }
+    }
+}
+
+impl Error for Unanswered {}
