@@ -1,13 +1,10 @@
 // Lines that are read, passed over and refused.
-use commands::command::LockName;
 use commands::fault::Fault;
 use commands::parse::parse;
-use desk::answer::{Decline, Unanswered};
-use desk::questions::{answer, answer_carry_key, answer_carry_value, answer_opens, answer_read};
-use money::satoshi::Satoshi;
+use desk::answer::Decline;
+use desk::questions::answer;
 use refusals::reason::Reason;
-use std::alloc::{AllocError, Global};
-use std::error::Error;
+use std::alloc::Global;
 use std::test::Fail;
 
 fn has_fault(heap: Global, line: &[u8], fault: Fault) -> bool {
@@ -67,43 +64,5 @@ fn the_desk_answers_in_words(rt: HostRuntime) -> Result<(), Fail> {
 fn a_lock_that_cannot_be_made_declines_with_a_bare_number(rt: HostRuntime) -> Result<(), Fail> {
     let decline = Decline::NotMade(Reason::OutOfBounds);
     assert!(rt; decline.to_string(rt.alloc())?.as_str() == "declined 5");
-    Ok(())
-}
-
-// What a question says that has no text.
-fn reason_of<E: Error + Drop>(heap: Global, said: Result<String, E>) -> Result<String, Fail> {
-    let unanswered = said.err().ok_or("there is a text")?;
-    Ok(unanswered.to_string(heap)?)
-}
-
-#[test]
-fn a_group_that_cannot_be_made_leaves_a_question_unanswered(rt: HostRuntime) -> Result<(), Fail> {
-    let heap = rt.alloc();
-    // 2 to the 10th is 12 by 23, not 1
-    let lock = LockName::Group {
-        modulus: 23,
-        order: 10,
-        base: 2,
-    };
-    let value = [0; 32];
-    let opens = answer_opens(heap, lock, &value, &value);
-    assert!(rt; reason_of(heap, opens)?.as_str() == "declined 5");
-    let carried = answer_carry_key(heap, lock, &value, &value);
-    assert!(rt; reason_of(heap, carried)?.as_str() == "declined 5");
-    let carried = answer_carry_value(heap, lock, &value, &value);
-    assert!(rt; reason_of(heap, carried)?.as_str() == "declined 5");
-    Ok(())
-}
-
-#[test]
-fn a_question_without_a_text_says_why(rt: HostRuntime) -> Result<(), Fail> {
-    let heap = rt.alloc();
-    let said = answer_read::<Satoshi>(heap, 5, b"\x00\x81");
-    assert!(rt;
-        reason_of(heap, said)?.as_str()
-            == "declined 4, layer 1, channel 5: the message cannot be read, or is not for this call"
-    );
-    let wanting = Err(Unanswered::from(AllocError));
-    assert!(rt; reason_of(heap, wanting)?.as_str() == "memory is wanting");
     Ok(())
 }

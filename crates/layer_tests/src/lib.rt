@@ -4,6 +4,8 @@
 #[cfg(test)]
 mod commands_tests;
 #[cfg(test)]
+mod desk_tests;
+#[cfg(test)]
 mod locks_tests;
 #[cfg(test)]
 mod messages_tests;
